@@ -28,9 +28,9 @@
  *       printf("refused %u %u: %s\n", RUQZHEMIL_NUMBER(answer), RUQZHEMIL_PLACE(answer), ruqzhemil_refusal_text(RUQZHEMIL_NUMBER(answer)));
  *   }
  *
- * WHAT IS PROMISED: for all bytes, however malformed, each function returns the number that crates/abi_convention and crates/abi_numbers define, with the bytes of
- * crates/abi_outcome/specs/Bytes and crates/abi_preview/specs/Bytes; the proofs of crates/ruqzhemil show it. Functions keep nothing between calls, have
- * no global state and allocate nothing, so threads may call them at the same time on areas of their own.
+ * WHAT IS PROMISED: for all bytes, however malformed, each function returns the number that crates/abi_convention and crates/abi_numbers define, with the
+ * bytes of specs/Bytes in crates/abi_thread_bytes, crates/abi_outcome and crates/abi_preview; the proofs of crates/ruqzhemil show it. Functions keep nothing
+ * between calls, have no global state and allocate nothing, so threads may call them at the same time on areas of their own.
  *
  * WHAT IS ASKED of the caller: each pointer leads to as many bytes as its length says (out of play to RUQZHEMIL_OUT_BYTES, of preview to
  * RUQZHEMIL_PREVIEW_BYTES); a length of 0 may go with any pointer, null too; what a function writes (log, area, out) overlaps none of its other bytes, and

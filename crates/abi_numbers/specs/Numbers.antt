@@ -6,7 +6,7 @@ use mathlib.Core.Option.{some, none}
 use Rattle.log_conflicts.specs.Judge.{Judged, refused, named, AnswersTold}
 use Rattle.answers.specs.Answer as tool
 use Rattle.abi_convention.specs.Convention.{valueNumber, otherNumber, refusalNumber, answerNumber, placeNumber}
-use Rattle.interleavings.specs.Interleavings.{Next, FirstAnswer, NextAnswer}
+use Rattle.listing_answers.specs.Interleavings.{Next, FirstAnswer, NextAnswer}
 use Rattle.witness.specs.Witness.{Witnesses}
 use Rattle.read.specs.Read.{Read}
 

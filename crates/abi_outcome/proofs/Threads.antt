@@ -10,9 +10,11 @@ use Rattle.run_outcome.specs.declared.ThreadState.the-variants as state
 use Rattle.run_outcome.specs.declared.Thread.{Thread}
 use Rattle.run_outcome.specs.declared.Outcome.{Outcome}
 use Rattle.play.specs.Answer.{stopOf, statusOf, outcomeOf}
-use Rattle.abi_outcome.specs.declared.ThreadBytes.{ThreadBytes}
-use Rattle.abi_outcome.specs.Bytes.{threadBytes, allThreads, outcomeBytes}
-use Rattle.abi_outcome.specs.inner.Small.{SmallStatus, AllSmall, SmallOutcome}
+use Rattle.abi_thread_bytes.specs.declared.ThreadBytes.{ThreadBytes}
+use Rattle.abi_thread_bytes.specs.Bytes.{threadBytes}
+use Rattle.abi_thread_bytes.specs.inner.Small.{SmallStatus}
+use Rattle.abi_outcome.specs.Bytes.{allThreads, outcomeBytes}
+use Rattle.abi_outcome.specs.inner.Small.{AllSmall, SmallOutcome}
 use Rattle.abi_outcome.specs.inner.Parts.{headBytes}
 
 abbrev pub absent : Thread

@@ -8,8 +8,8 @@ use Rattle.run_outcome.specs.declared.Stop.the-variants as stop
 use Rattle.run_outcome.specs.declared.ThreadState.{ThreadState}
 use Rattle.log_records.specs.Packed.{bytesOf}
 use Rattle.play.specs.Answer.{stopOf, roomOf, statusOf}
-use Rattle.abi_outcome.specs.Bytes.{three, stopByte, threadBytes}
-use Rattle.abi_outcome.specs.declared.ThreadBytes.{ThreadBytes}
+use Rattle.abi_thread_bytes.specs.Bytes.{three, stopByte, threadBytes}
+use Rattle.abi_thread_bytes.specs.declared.ThreadBytes.{ThreadBytes}
 use Rattle.run_last_pick.specs.declared.RecordBytes.{RecordBytes}
 use Rattle.run_last_pick.specs.declared.Previewed.{Previewed}
 use Rattle.run_last_pick.specs.declared.Previewed.the-variants as previewed

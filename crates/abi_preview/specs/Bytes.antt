@@ -4,7 +4,7 @@ use mathlib.Core.List.{List, [], _∷_, _++_}
 use mathlib.Core.Option.{some, none}
 use Rattle.log_records.specs.Packed.{bytesOf}
 use Rattle.rules.specs.Run.{Stop}
-use Rattle.abi_outcome.specs.Bytes.{stopByte, threadBytes}
+use Rattle.abi_thread_bytes.specs.Bytes.{stopByte, threadBytes}
 use Rattle.abi_convention.specs.Convention.{valueNumber, refusalNumber}
 use Rattle.preview.specs.Preview.{Preview, Previewed}
 

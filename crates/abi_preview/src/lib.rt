@@ -1,11 +1,11 @@
 // A preview as a number and eight bytes, for programs in C, Rust and other languages.
 ghost use mathlib.Core.Path.{_≡_};
 ghost use Rattle.play.specs.Answer.{stopOf};
-ghost use Rattle.abi_outcome.specs.Bytes.{three, stopByte};
+ghost use Rattle.abi_thread_bytes.specs.Bytes.{three, stopByte};
 ghost use Rattle.preview.specs.Answer.{answered, AsLogged};
 ghost use Rattle.abi_preview.specs.Bytes.{previewNumber, outAfter};
 ghost use Rattle.abi_preview.specs.inner.Small.{SmallPreviewed, eight, noRecord};
-use abi_outcome::ThreadBytes;
+use abi_thread_bytes::ThreadBytes;
 use run_last_pick::Previewed;
 use run_last_pick::RecordBytes;
 use run_outcome::Stop;
@@ -15,7 +15,7 @@ fn stop_bytes(stop: Stop) -> ThreadBytes
     ensures { λ r. ⌜ r ≡ three (stopByte (stopOf stop)) 0 0 ⌝ }
 {
     ThreadBytes {
-        state: abi_outcome::stop_byte(stop),
+        state: abi_thread_bytes::stop_byte(stop),
         named: 0,
         field: 0,
     }
@@ -67,7 +67,12 @@ pub fn write(out: &mut [u8; 8], previewed: Previewed) -> u64
             return abi_convention::refusal(number, place);
         }
         Previewed::Stopped(stop) => fill(out, 5, stop_bytes(stop), no_record()),
-        Previewed::Passed(state) => fill(out, 0, abi_outcome::thread_bytes(state), no_record()),
+        Previewed::Passed(state) => fill(
+            out,
+            0,
+            abi_thread_bytes::thread_bytes(state),
+            no_record(),
+        ),
         Previewed::Moved => fill(out, 1, no_reason(), no_record()),
         Previewed::Recorded(logged) => fill(out, 2, no_reason(), logged),
         Previewed::Race(logged) => fill(out, 3, stop_bytes(Stop::Race), logged),

@@ -28,7 +28,7 @@ use Rattle.log_records.specs.Refusals.{logRefusal}
 use Rattle.log_records.proofs.Tidy.{LacksLast}
 use Rattle.log_records.proofs.RoundTrip.{logOf-bytesOf}
 use Rattle.log_records.proofs.Accepted.{well-formed-log}
-use Rattle.rules.specs.Run.{Stop, end, race, noRoom, Run, play}
+use Rattle.rules.specs.Run.{Stop, end, race, noRoom, Run, play, log}
 use Rattle.rules.specs.Play.{runOf}
 use Rattle.rules.proofs.Executed.{play-executes}
 use Rattle.rules.proofs.RunKeys.{kept-play}
@@ -39,29 +39,29 @@ use Rattle.agreement.proofs.LastRecord.{LastLacks, last-lacks, last-acc
 
 -- ---- what a judge says of a log whose accesses unordered after the last write are the stop
 
-module _ (v : Version) (r : Run) (n : LastLacks (r .stop) (r .log))
-    (exact : (j : ℕ) (x : Record) → At (r .log) j x → T (isPlain (x .kind)) → T (lacksKey (x .kind)) ↔ Unordered v (r .log) j) where
-  named-by : (a : Option ℕ) → Names v (r .log) a → (e : Stop) → LastLacks e (r .log) → NamedBy e (length (r .log)) a
+module _ (v : Version) (r : Run) (n : LastLacks (r .stop) (log r))
+    (exact : (j : ℕ) (x : Record) → At (log r) j x → T (isPlain (x .kind)) → T (lacksKey (x .kind)) ↔ Unordered v (log r) j) where
+  named-by : (a : Option ℕ) → Names v (log r) a → (e : Stop) → LastLacks e (log r) → NamedBy e (length (log r)) a
   named-by a m end l = tt
   named-by a m (noRoom k) l = tt
-  named-by (some j) (names-first c low) race l = at-within (r .log) j (c .access) (c .at-j)
+  named-by (some j) (names-first c low) race l = at-within (log r) j (c .access) (c .at-j)
   named-by none (names-none f) race l = last (l .0)
     where
-      last : 0 < length (r .log) → ⊥
+      last : 0 < length (log r) → ⊥
       last b =
-          let x = there (r .log) (length (r .log) - 1) (omega arith) in
-          let k = l .1 (length (r .log) - 1) (x .0) (x .1) .1 (omega arith) in
-          f (length (r .log) - 1) (unordered→conflicting (exact (length (r .log) - 1) (x .0) (x .1) (lacking-plain (x .0 .kind) k) .0 k))
+          let x = there (log r) (length (log r) - 1) (omega arith) in
+          let k = l .1 (length (log r) - 1) (x .0) (x .1) .1 (omega arith) in
+          f (length (log r) - 1) (unordered→conflicting (exact (length (log r) - 1) (x .0) (x .1) (lacking-plain (x .0 .kind) k) .0 k))
 
   -- of the log in bytes, which are read back and not refused
-  judged-bytes : logOf (bytesOf (r .log)) ≡ r .log → logRefusal (bytesOf (r .log)) ≡ none → (a : Judged) → Answers v (bytesOf (r .log)) a
-      → (x : Option ℕ) × (a ≡ named x) × NamedBy (r .stop) (length (r .log)) x
+  judged-bytes : logOf (bytesOf (log r)) ≡ log r → logRefusal (bytesOf (log r)) ≡ none → (a : Judged) → Answers v (bytesOf (log r)) a
+      → (x : Option ℕ) × (a ≡ named x) × NamedBy (r .stop) (length (log r)) x
   judged-bytes w c (Judged.refused x) (refuses e) = absurd (true≢false cc)
   judged-bytes w c (Judged.named a) (judges e m) = (a, refl, named-by a (along (λ (L : List Record). Names v L a) w m) (r .stop) n)
 
 -- ---- runs
 
-lacks-last : (r : Run) → LastLacks (r .stop) (r .log) → LacksLast (r .log)
+lacks-last : (r : Run) → LastLacks (r .stop) (log r) → LacksLast (log r)
 lacks-last r n i x h k = lacks-stopped r n i x h .0 k .is-last
 
 -- any well-formed program, any list of at most 4,096 picks, picks passed over included
@@ -80,20 +80,20 @@ play-agrees g P ps few =
     r : Run
     r = play g ps
 
-    n : LastLacks (r .stop) (r .log)
+    n : LastLacks (r .stop) (log r)
     n = last-lacks (play-executes g P ps)
 
     tidy : TidyRun ps r
     tidy = tidy-play g P ps
 
-    exact : (j : ℕ) (x : Record) → At (r .log) j x → T (isPlain (x .kind)) → T (lacksKey (x .kind)) ↔ Unordered (g .version) (r .log) j
-    exact = agree (g .version) (r .log) (kept-play g P ps .legal)
+    exact : (j : ℕ) (x : Record) → At (log r) j x → T (isPlain (x .kind)) → T (lacksKey (x .kind)) ↔ Unordered (g .version) (log r) j
+    exact = agree (g .version) (log r) (kept-play g P ps .legal)
 
-    written : logOf (bytesOf (r .log)) ≡ r .log
-    written = logOf-bytesOf (r .log) (tidy .all-tidy)
+    written : logOf (bytesOf (log r)) ≡ log r
+    written = logOf-bytesOf (log r) (tidy .all-tidy)
 
-    clean : logRefusal (bytesOf (r .log)) ≡ none
-    clean = let b = tidy .few in well-formed-log (r .log) (tidy .all-tidy) (lacks-last r n) (omega arith)
+    clean : logRefusal (bytesOf (log r)) ≡ none
+    clean = let b = tidy .few in well-formed-log (log r) (tidy .all-tidy) (lacks-last r n) (omega arith)
 
 -- ---- accepted plans
 
@@ -113,8 +113,8 @@ unfolding programOf
 told-plan plan b a h = let known = accepted plan h .version-known in (told-known known, right-version known)
 
 -- a run's log has at most one access that nothing orders after the last write
-pub one-unordered : {g : Program} {ps : List ℕ} {r : Run} → Agreement g ps r → (i j : ℕ) → Unordered (g .version) (r .log) i
-    → Unordered (g .version) (r .log) j → i ≡ j
+pub one-unordered : {g : Program} {ps : List ℕ} {r : Run} → Agreement g ps r → (i j : ℕ) → Unordered (g .version) (log r) i
+    → Unordered (g .version) (log r) j → i ≡ j
 one-unordered A i j u w =
     let a = A .stops i (u .access) (u .at-j) (u .plain) .1 u .is-last in
     let b = A .stops j (w .access) (w .at-j) (w .plain) .1 w .is-last in

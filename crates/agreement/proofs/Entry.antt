@@ -11,6 +11,7 @@ use Rattle.plan_packed.specs.Format.{version}
 use Rattle.plan_packed.specs.Trees.{programOf}
 use Rattle.plan_refusals.specs.declared.Checked.the-variants as checked
 use Rattle.log_records.specs.Packed.{bytesOf}
+use Rattle.rules.specs.Run.{log}
 use Rattle.rules.specs.Play.{played, areaAfter, runOf}
 use Rattle.play.specs.declared.outcome.Played.{Played}
 use Rattle.play.specs.Answer.{stopOf, answered}
@@ -32,10 +33,10 @@ module _ (plan schedule area : List ℕ) (p : Played) (h : answered p ≡ played
   -- what the judge says of the first bytes of the log area that the play leaves
   module _ (after : List ℕ) (left : after ≡ areaAfter plan schedule area) (j : Judgement) (n : ℕ) (q : n ≡ 3 * p .outcome .records) (v : ℕ)
       (w : v ≡ version plan) (m : AnswersTold v (take n after) (judge.answered j)) where
-    answers : Answers (programOf plan .version) (bytesOf (runOf plan schedule .log)) (judge.answered j)
+    answers : Answers (programOf plan .version) (bytesOf (log (runOf plan schedule))) (judge.answered j)
     answers =
-        told-plan plan (bytesOf (runOf plan schedule .log)) (judge.answered j) (passes plan schedule area p h e .plan-passes) .0
-        (along (λ (k : ℕ). AnswersTold k (bytesOf (runOf plan schedule .log)) (judge.answered j)) w
+        told-plan plan (bytesOf (log (runOf plan schedule))) (judge.answered j) (passes plan schedule area p h e .plan-passes) .0
+        (along (λ (k : ℕ). AnswersTold k (bytesOf (log (runOf plan schedule))) (judge.answered j)) w
         (along (λ (b : List ℕ). AnswersTold v b (judge.answered j)) (ap (λ (k : ℕ). take k after) (sym (sub-zero n))
         ∙ begins plan schedule area p h e after left n q) m))
 

@@ -14,7 +14,7 @@ use Rattle.log_records.specs.Record.{Record, lacksKey}
 use Rattle.rules.specs.State.{Thread, State}
 use Rattle.rules.specs.Rules.{Rule, Converts, E-CALL, E-LET, E-IF, E-WHILE, E-NEW, E-READ, E-WRITE, E-READV, E-WRITEV, E-FORK, E-JOIN, E-RE-ENTER, E-ACQUIRE}
 use Rattle.rules.specs.Rules.{E-RELEASE, E-WAIT, E-WAKE, E-NOTIFY, E-NOTIFYALL, Moves, EVAL, EVALᶜ, LACKS-READ, LACKS-WRITE, Lacks, LACKS}
-use Rattle.rules.specs.Run.{Stop, end, race, noRoom, Run, logged, stopped, afterPass, afterMove}
+use Rattle.rules.specs.Run.{Stop, end, race, noRoom, Run, logged, stopped, afterPass, afterMove, log}
 use Rattle.rules.specs.Execution.{Execution, ends, passes, lacks-key, no-room, moves}
 use Rattle.agreement.specs.Agreement.{StoppedAt}
 
@@ -90,13 +90,13 @@ last-logged (some r) end L c n = none-with r L c n
 last-logged (some r) (noRoom k) L c n = none-with r L c n
 last-logged (some r) race L c n = (omega arith, race-with r L c n)
 
-pub last-lacks : {g : Program} {s : State} {ps : List ℕ} {r : Run} → Execution g s ps r → LastLacks (r .stop) (r .log)
-unfolding stopped afterPass afterMove
+pub last-lacks : {g : Program} {s : State} {ps : List ℕ} {r : Run} → Execution g s ps r → LastLacks (r .stop) (log r)
+unfolding log stopped afterPass afterMove
 last-lacks ends = none-in-empty
 last-lacks (passes h x) = last-lacks x
 last-lacks (lacks-key {e = e} h) = (omega arith, only-one e (lacking h))
 last-lacks (no-room h e) = none-in-empty
-last-lacks (moves {r = r} {e = e} h k x) = last-logged e (r .stop) (r .log) (complete-move h) (last-lacks x)
+last-lacks (moves {r = r} {e = e} h k x) = last-logged e (r .stop) (log r) (complete-move h) (last-lacks x)
 
 -- ---- the access
 
@@ -111,19 +111,21 @@ in-logged none L j x b h q = (j, h, q)
 in-logged (some r) L zero x b h q = absurd (omega arith)
 in-logged (some r) L (suc j) x b h q = (j, h, omega arith)
 
-some-logged : {g : Program} {s : State} {ps : List ℕ} {r : Run} → Execution g s ps r → r .stop ≡ race → 0 < length (r .log)
-some-logged x q = (rw q at (last-lacks x)) .0
+pub race-recorded : (r : Run) → LastLacks (r .stop) (log r) → r .stop ≡ race → 0 < length (log r)
+race-recorded r n h = along (λ (e : Stop). LastLacks e (log r)) h n .0
 
 -- the last record of a run that stopped for want of a key is the access that the thread picked last lacks the key for
-pub last-access : {g : Program} {s : State} {ps : List ℕ} {r : Run} → Execution g s ps r → r .stop ≡ race → (j : ℕ) (x : Record) → At (r .log) j x
-    → suc j ≡ length (r .log)
+pub last-access : {g : Program} {s : State} {ps : List ℕ} {r : Run} → Execution g s ps r → r .stop ≡ race → (j : ℕ) (x : Record) → At (log r) j x
+    → suc j ≡ length (log r)
     → (p : ℕ) × (getElem? ps (r .picks) ≡ some p) × Lacks g (r .final) p x
-unfolding stopped afterPass afterMove
+unfolding log stopped afterPass afterMove
 last-access ends q j x h l = absurd (true≢false cc)
 last-access (passes o y) q j x h l = last-access y q j x h l
 last-access {g} (lacks-key {s} {p} {e = e} k) q j x h l = (p, refl, along (Lacks g s p) (last-one e x j h) k)
 last-access (no-room m k) q j x h l = absurd (true≢false cc)
-last-access (moves {r = r} {e = e} m k y) q j x h l = let i = in-logged e (r .log) j x (some-logged y q) h l in last-access y q (i .0) x (i .1) (i .2)
+last-access (moves {r = r} {e = e} m k y) q j x h l =
+    let i = in-logged e (log r) j x (race-recorded r (last-lacks y) q) h l in
+    last-access y q (i .0) x (i .1) (i .2)
 
 -- ---- the stop
 
@@ -131,13 +133,10 @@ no-race : {r : Run} {A : Type 0} (e : Stop) → r .stop ≡ e → (e ≡ race �
 no-race e h n j st = absurd (n (sym h ∙ st .raced))
 
 -- record j lacks its key exactly where the run stopped at it
-pub lacks-stopped : (r : Run) → LastLacks (r .stop) (r .log) → (j : ℕ) (x : Record) → At (r .log) j x → T (lacksKey (x .kind)) ↔ StoppedAt r j
+pub lacks-stopped : (r : Run) → LastLacks (r .stop) (log r) → (j : ℕ) (x : Record) → At (log r) j x → T (lacksKey (x .kind)) ↔ StoppedAt r j
 lacks-stopped r n j x h = go (r .stop) refl n
   where
-    go : (e : Stop) → r .stop ≡ e → LastLacks e (r .log) → T (lacksKey (x .kind)) ↔ StoppedAt r j
+    go : (e : Stop) → r .stop ≡ e → LastLacks e (log r) → T (lacksKey (x .kind)) ↔ StoppedAt r j
     go end q n = (λ k. absurd (n j x h k), λ st. let y : end ≡ race = sym q ∙ st .raced in absurd (true≢false cc))
     go (noRoom k) q n = (λ l. absurd (n j x h l), λ st. let y : noRoom k ≡ race = sym q ∙ st .raced in absurd (true≢false cc))
     go race q n = (λ k. record { raced = q; is-last = n .1 j x h .0 k }, λ st. n .1 j x h .1 (st .is-last))
-
-pub race-recorded : (r : Run) → LastLacks (r .stop) (r .log) → r .stop ≡ race → 0 < length (r .log)
-race-recorded r n h = (rw h at n) .0

@@ -7,7 +7,7 @@ use mathlib.Core.Option.{Option, some, none}
 use Rattle.format.specs.Version.{Version, v0, v1}
 use Rattle.plan_packed.specs.Syntax.{literal, variable, new, read, write, letIn, fork, Program}
 use Rattle.rules.specs.State.{Cell, lookup}
-use Rattle.rules.specs.Run.{Stop, end, race, play}
+use Rattle.rules.specs.Run.{Stop, end, race, play, log}
 use Rattle.log_conflicts.proofs.FirstConflict.{firstConflict}
 
 -- main is `let 0 = new(1, 2) in let - = fork (let - = v0.1 := null in v0.2 := v0) in let - = v0.2 in v0.1`, field 1 plain, field 2 volatile
@@ -38,14 +38,14 @@ record Came : Type 0 where
 abbrev came : Version → Came
 came v =
     let r = play (handOver v) picks in
-    record { stop = r .stop; named = firstConflict v (r .log); field = lookup (r .final) 1 2 }
+    record { stop = r .stop; named = firstConflict v (log r); field = lookup (r .final) 1 2 }
 
 -- the keys pass: the field's set is {0, 1}
 passes-in-1 : came v1 ≡ record { stop = end; named = none; field = some (record { keys = 3; value = 1 }) }
-unfolding play firstConflict lookup
+unfolding play log firstConflict lookup
 passes-in-1 = refl
 
 -- the value passes, and no key: the field's set stays {0}
 stops-in-0 : came v0 ≡ record { stop = race; named = some 5; field = some (record { keys = 1; value = 1 }) }
-unfolding play firstConflict lookup
+unfolding play log firstConflict lookup
 stops-in-0 = refl

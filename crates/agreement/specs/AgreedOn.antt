@@ -7,6 +7,7 @@ use Rattle.log_conflicts.specs.Judge.{named, Answers}
 use Rattle.log_records.specs.Packed.{bytesOf}
 use Rattle.plan_packed.specs.Trees.{programOf}
 use Rattle.plan_refusals.specs.declared.Checked.the-variants as checked
+use Rattle.rules.specs.Run.{log}
 use Rattle.rules.specs.Play.{runOf}
 use Rattle.play.specs.Answer.{stopOf}
 use Rattle.judge.specs.declared.Judgement.the-variants as judgement
@@ -20,7 +21,7 @@ pub record AgreedOn (plan schedule : List ℕ) (r : PlayedAndJudged) : Type 0 wh
   -- chain leads from the last such write to it": the run that was played, its log, and what the judge answers to it
   pub chains : r .played .checked ≡ checked.Passed → Agreement (programOf plan) schedule (runOf plan schedule)
   -- the judgement that the code came to is the judge's of that run's log
-  pub judged : r .played .checked ≡ checked.Passed → Answers (programOf plan .version) (bytesOf (runOf plan schedule .log)) (answered (r .judgement))
+  pub judged : r .played .checked ≡ checked.Passed → Answers (programOf plan .version) (bytesOf (log (runOf plan schedule))) (answered (r .judgement))
   -- and by what the code answers of that run: "When a run stops for a missing key, the judge names that record or an earlier one; a judge that finds none
   -- means no missing key."
   pub agrees : r .played .checked ≡ checked.Passed

@@ -15,7 +15,8 @@ use Rattle.plan_refusals.specs.declared.Checked.the-variants as checked
 use Rattle.rules.specs.Run as run
 use Rattle.rules.specs.Play as play
 use Rattle.rules.specs.Play.{shortArea, scheduleRefusal, playRefusal, played, playedBy, runOf}
-use Rattle.run_refusals.proofs.RefusalChain.{areaChecks, play-stages}
+use Rattle.run_schedule_refusals.specs.inner.Checks.{areaChecks}
+use Rattle.run_refusals.proofs.RefusalChain.{play-stages}
 use Rattle.run_refusals.proofs.Passed.{scheduled}
 use Rattle.play.specs.declared.outcome.Played.{Played}
 use Rattle.play.specs.Answer.{stopOf, outcomeOf, answeredBy, answered}

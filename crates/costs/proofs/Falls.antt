@@ -15,7 +15,7 @@ use Rattle.rules.specs.State.{Thread, State, freshObject, changeAt, store, stor
 use Rattle.rules.specs.Rules.{Rule, Converts, E-CALL, E-LET, E-IF, E-WHILE, E-NEW, E-READ, E-WRITE, E-READV, E-WRITEV, E-FORK, E-JOIN, E-RE-ENTER, E-ACQUIRE}
 use Rattle.rules.specs.Rules.{E-RELEASE, E-WAIT, E-WAKE, E-NOTIFY, E-NOTIFYALL, Convertsᶜ, E-NOTNOTTRUE, E-ANDTRUE, E-ANDFALSE, E-EQUALTRUE, E-EQUALFALSE}
 use Rattle.rules.specs.Rules.{Moves, EVAL, EVALᶜ}
-use Rattle.rules.specs.Run.{Run, stopped, afterPass, afterMove}
+use Rattle.rules.specs.Run.{Run, stopped, afterPass, afterMove, instances}
 use Rattle.rules.specs.Execution.{Execution, ends, passes, lacks-key, no-room, moves}
 use Rattle.rules.proofs.StateLaws.{inside, added, added-old, who}
 use Rattle.costs.specs.Cost.{oneMore, cost, costOfBody, Costs}
@@ -209,8 +209,8 @@ module _ (B : ℕ → ℕ) where
         (omega arith, simple-become s p t (plugᶜ K c′) ht (d .1 c′ (f .2)) N)
 
     pub execution-bound : {s : State} {ps : List ℕ} {r : Run} → Simple s → Execution g s ps r
-        → length (r .instances) + sum (r .final .threads) ≤ sum (s .threads)
-    unfolding stopped afterPass afterMove
+        → length (instances r) + sum (r .final .threads) ≤ sum (s .threads)
+    unfolding instances stopped afterPass afterMove
     execution-bound N ends = omega arith
     execution-bound N (passes h x) = execution-bound N x
     execution-bound N (lacks-key h) = omega arith

@@ -15,7 +15,7 @@ use Rattle.plan_packed.specs.Trees.{programOf}
 use Rattle.plan_packed.specs.Check.{checks, refusal}
 use Rattle.rules.specs.Queue.{awake}
 use Rattle.rules.specs.State.{Thread, start}
-use Rattle.rules.specs.Run.{outcomeOf}
+use Rattle.rules.specs.Run.{outcomeOf, instances}
 use Rattle.rules.specs.Play.{runOf}
 use Rattle.rules.proofs.Executed.{plan-executes}
 use Rattle.costs.specs.Cost.{Costs, bodyCost, total}
@@ -77,7 +77,7 @@ main-simple zero t h =
 main-simple (suc p) t h = absurd (true≢false cc)
 
 -- for every plan that is answered a number, and every list of picks
-pub no-more-moves : (b : List ℕ) (n : ℕ) → bounded b ≡ value n → (ps : List ℕ) → length (runOf b ps .instances) ≤ n
+pub no-more-moves : (b : List ℕ) (n : ℕ) → bounded b ≡ value n → (ps : List ℕ) → length (instances (runOf b ps)) ≤ n
 unfolding start measure runOf total
 no-more-moves b n h ps =
     let k = totalled b n h in

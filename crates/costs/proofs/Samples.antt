@@ -8,6 +8,7 @@ use lib.ListN.{length}
 use Rattle.format.specs.Version.{v1}
 use Rattle.plan_packed.specs.Syntax.{letIn, call, new, end, Procedure, Program}
 use Rattle.run_keys.specs.Keys.{holds, countNew}
+use Rattle.rules.specs.Run.{instances}
 use Rattle.rules.specs.Play.{runOf}
 use Rattle.rules.specs.ShotList.{planP}
 use Rattle.costs.specs.Cost.{total}
@@ -152,8 +153,8 @@ sample-answers = refl
 everyMove : List ℕ
 everyMove = 0 ∷ 0 ∷ 0 ∷ 0 ∷ 0 ∷ 0 ∷ 0 ∷ 1 ∷ 1 ∷ 1 ∷ 1 ∷ 1 ∷ 0 ∷ 0 ∷ 0 ∷ 0 ∷ 0 ∷ 0 ∷ 0 ∷ 0 ∷ 0 ∷ 0 ∷ 0 ∷ 0 ∷ 0 ∷ 0 ∷ 2 ∷ 0 ∷ []
 
-reached : length (runOf everyCost everyMove .instances) ≡ 28
-unfolding runOf everyCost everyMove countNew holds
+reached : length (instances (runOf everyCost everyMove)) ≡ 28
+unfolding runOf instances everyCost everyMove countNew holds
 reached = refl
 
 -- ---- calls that double: procedure p calls the next one twice, and the last is `new()`

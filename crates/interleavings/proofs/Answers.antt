@@ -1,18 +1,16 @@
--- The answers: what refuses, and in which order; what is written. Assumes nothing.
+-- From the steps to the answers: what the entries need to begin, and what they have written. Assumes nothing.
 use Prim.Native.Nat.{ℕ, _+_, _-_, _≤_, _<_}
 use native.Mathlib.Nat.{sub-zero}
 use native.Mathlib.Omega.{arith}
 use mathlib.Core.Path.{_≡_, sym, ap, _∙_, subst as along}
-use mathlib.Core.Bool.{Bool, true, false}
 use mathlib.Core.List.{List, [], _∷_, _++_}
-use mathlib.Core.Option.{Option, some, none}
+use mathlib.Core.Option.{some, none}
 use lib.ListN.{length, length-append, take, drop, take-append-drop}
 use lib.Seq.{length-take-le, take-take, drop-drop}
 use borrow.Author.Tests.{lt-ltb, le-ltb}
-use Rattle.format.specs.Refusal.{Refusal, Check, checkWhole, orElse, lowest, refuse, firstRefusal}
+use Rattle.format.specs.Refusal.{checkWhole, orElse, firstRefusal}
 use Rattle.format.specs.Area.{overwrite}
 use Rattle.format.proofs.AreaLaws.{overwrite-only}
-use Rattle.format.proofs.LowestLaws.{whole, whole-none}
 use Rattle.format.proofs.RefusalLaws.{refusal-append}
 use Rattle.plan_packed.specs.Syntax.{Program}
 use Rattle.plan_packed.specs.Format.{terms}
@@ -22,106 +20,49 @@ use Rattle.plan_packed.specs.inner.Steps.{Loaded}
 use Rattle.plan_refusals.specs.Answer as check
 use Rattle.plan_refusals.specs.declared.Checked.{Checked}
 use Rattle.plan_refusals.specs.declared.Checked.the-variants as checked
-use Rattle.rules.specs.Play.{scheduleChecks, scheduleRefusal}
+use Rattle.rules.specs.Play.{scheduleRefusal}
 use Rattle.text.specs.inner.Wrote.{Wrote}
 use Rattle.answers.specs.Answer as answer
 use Rattle.listing.specs.Order.{Before, AtMost}
-use Rattle.listing.specs.Listed.{Listed, First, Over}
+use Rattle.listing.specs.Listed.{Listed, First}
 use Rattle.listing.specs.inner.CanFollow.{canFollow}
 use Rattle.listing.specs.inner.Ways.{Way}
 use Rattle.listing.proofs.Order.{empty-lowest}
 use Rattle.listing.proofs.Ways.{no-picks}
-use Rattle.run_replays.specs.inner.Replay.{Accepted, OfEight}
-use Rattle.run_refusals.proofs.Passed.{scheduled-by-code}
 use Rattle.interleavings.specs.declared.Next.{Next}
 use Rattle.interleavings.specs.declared.Next.the-variants as next
-use Rattle.interleavings.specs.Interleavings as papers
-use Rattle.interleavings.specs.Interleavings.{overBound, shortOutput, firstRefused, FirstAnswer, nextRefused, NextAnswer}
-use Rattle.interleavings.specs.Count.{countRefused}
+use Rattle.listing_answers.specs.Interleavings as papers
+use Rattle.listing_answers.specs.Interleavings.{overBound, FirstAnswer, NextAnswer}
 use Rattle.interleavings.specs.Answer.{answered}
+use Rattle.interleavings.specs.Count.{countRefused}
+use Rattle.listing_answers.proofs.Answers.{numbered, refuses, passes, first-or, then-other, refused-is, passed-is, first-none, next-written, next-over}
+use Rattle.run_replays.specs.inner.Replay.{Accepted, OfEight}
+use Rattle.run_refusals.proofs.Passed.{scheduled-by-code}
 use Rattle.interleavings.specs.inner.Steps.{Begins, Reached, TurnsAt, Followed}
 use Rattle.interleavings.proofs.GoingOn.{taken}
 use Rattle.interleavings.proofs.GoingBack.{turned-way, turned-least, turned-above}
 
--- ---- checks one after the other
-
--- the refusal of number k
-abbrev numbered : ℕ → Refusal
-numbered k = record { number = k; place = 0 }
-
-refuses : (k : ℕ) (x : Bool) (cs : List Check) → x ≡ true → firstRefusal (checkWhole k x ∷ cs) ≡ some (numbered k)
-unfolding firstRefusal refuse
-refuses k x cs e = let m : lowest (λ place. x) 1 ≡ some 0 = whole x e in rw m
-
-passes : (k : ℕ) (x : Bool) (cs : List Check) → x ≡ false → firstRefusal (checkWhole k x ∷ cs) ≡ firstRefusal cs
-unfolding firstRefusal refuse
-passes k x cs e = let m : lowest (λ place. x) 1 ≡ none = whole-none x e in rw m
-
-first-or : (x y : Option Refusal) (r : Refusal) → x ≡ some r → orElse x y ≡ some r
-unfolding orElse
-first-or x y r e = rw e
-
-then-other : (x y : Option Refusal) → x ≡ none → orElse x y ≡ y
-unfolding orElse
-then-other x y e = rw e
-
-refused-is : (x : Option Refusal) (r : Checked) (k i : ℕ) → check.answered r ≡ x → r ≡ checked.Refused k i → x ≡ some (record { number = k; place = i })
-unfolding check.answered
-refused-is x r k i h e = sym h ∙ ap check.answered e
-
-passed-is : (x : Option Refusal) (r : Checked) → check.answered r ≡ x → r ≡ checked.Passed → x ≡ none
-unfolding check.answered
-passed-is x r h e = sym h ∙ ap check.answered e
-
 -- ---- to begin
 
-module _ (plan : List ℕ) (n : ℕ) (area : List ℕ) where
-  pub first-stages : firstRefused plan n area ≡ orElse (refusal plan) (firstRefusal (checkWhole 18 (overBound n) ∷ checkWhole 20 (shortOutput n area) ∷ []))
-  unfolding firstRefused refusal
-  first-stages = refusal-append (checks plan) (checkWhole 18 (overBound n) ∷ checkWhole 20 (shortOutput n area) ∷ [])
+module _ (plan : List ℕ) (n : ℕ) (area : List ℕ) (r : Checked) (h : check.answered r ≡ refusal plan) (e : r ≡ checked.Passed) where
+  pub accepted-plan : (words : List ℕ) → Loaded plan (terms plan) words → Accepted plan words
+  accepted-plan words l = record { plan-passes = passed-is _ r h e; loaded = l }
 
-  module _ (r : Checked) (h : check.answered r ≡ refusal plan) where
-    pub first-refused : (k i : ℕ) → r ≡ checked.Refused k i → FirstAnswer plan n area (answer.refused (record { number = k; place = i })) area
-    first-refused k i e = FirstAnswer.REFUSED (first-stages ∙ first-or _ _ _ (refused-is _ r k i h e))
+  pub first-begins : (words : List ℕ) → Loaded plan (terms plan) words → n ≤ 64 → n ≤ length area → Begins plan words n area 0
+  first-begins words l b s =
+      record { accepted = accepted-plan words l; bound = b; long = s; within = omega arith; way = no-picks (canFollow (programOf plan)) }
 
-    module _ (e : r ≡ checked.Passed) where
-      later : firstRefused plan n area ≡ firstRefusal (checkWhole 18 (overBound n) ∷ checkWhole 20 (shortOutput n area) ∷ [])
-      later = first-stages ∙ then-other _ _ (passed-is _ r h e)
-
-      pub accepted-plan : (words : List ℕ) → Loaded plan (terms plan) words → Accepted plan words
-      accepted-plan words l = record { plan-passes = passed-is _ r h e; loaded = l }
-
-      pub first-begins : (words : List ℕ) → Loaded plan (terms plan) words → n ≤ 64 → n ≤ length area → Begins plan words n area 0
-      first-begins words l b s =
-          record { accepted = accepted-plan words l; bound = b; long = s; within = omega arith; way = no-picks (canFollow (programOf plan)) }
-
-      pub first-over-bound : 64 < n → FirstAnswer plan n area (answer.refused (numbered 18)) area
-      unfolding overBound
-      first-over-bound b = FirstAnswer.REFUSED (later ∙ refuses 18 (overBound n) _ (lt-ltb 64 n b))
-
-      within : n ≤ 64 → firstRefused plan n area ≡ firstRefusal (checkWhole 20 (shortOutput n area) ∷ [])
-      unfolding overBound
-      within b = later ∙ passes 18 (overBound n) _ (le-ltb 64 n b)
-
-      pub first-short : n ≤ 64 → length area < n → FirstAnswer plan n area (answer.refused (numbered 20)) area
-      unfolding shortOutput
-      first-short b s = FirstAnswer.REFUSED (within b ∙ refuses 20 (shortOutput n area) [] (lt-ltb (length area) n s))
-
-      first-none : n ≤ 64 → n ≤ length area → firstRefused plan n area ≡ none
-      unfolding shortOutput firstRefusal
-      first-none b s = within b ∙ passes 20 (shortOutput n area) [] (le-ltb (length area) n s)
-
-      pub first-written : n ≤ 64 → n ≤ length area → (after : List ℕ) (at : ℕ) → Reached (programOf plan) n 0 area after at
-          → FirstAnswer plan n area (answer.value at) after
-      first-written b s after at x =
-          let qs = take at after in
-          let m : length qs ≡ at = taken x s in
-          let a : after ≡ overwrite qs area =
-          overwrite-only qs area after (ap (λ (k : ℕ). take k after) m) (ap (λ (k : ℕ). drop k after) m ∙ x .rest
-          ∙ ap (λ (k : ℕ). drop k area) (sym m)) in
-          let f : First (programOf plan) n qs = record { has = x .listed; least = λ rs l. x .least rs l (empty-lowest rs) } in
-          along (λ (k : ℕ). FirstAnswer plan n area (answer.value k) after) m
-          (along (FirstAnswer plan n area (answer.value (length qs))) (sym a) (FirstAnswer.WRITTEN (first-none b s) f))
+  pub first-written : n ≤ 64 → n ≤ length area → (after : List ℕ) (at : ℕ) → Reached (programOf plan) n 0 area after at
+      → FirstAnswer plan n area (answer.value at) after
+  first-written b s after at x =
+      let qs = take at after in
+      let m : length qs ≡ at = taken x s in
+      let a : after ≡ overwrite qs area =
+      overwrite-only qs area after (ap (λ (k : ℕ). take k after) m) (ap (λ (k : ℕ). drop k after) m ∙ x .rest
+      ∙ ap (λ (k : ℕ). drop k area) (sym m)) in
+      let f : First (programOf plan) n qs = record { has = x .listed; least = λ rs l. x .least rs l (empty-lowest rs) } in
+      along (λ (k : ℕ). FirstAnswer plan n area (answer.value k) after) m
+      (along (FirstAnswer plan n area (answer.value (length qs))) (sym a) (FirstAnswer.WRITTEN (first-none plan n area r h e b s) f))
 
 -- ---- the following one
 
@@ -185,45 +126,22 @@ module _ (g : Program) (n : ℕ) (ps : List ℕ) (x : Listed g n ps) (area : Lis
             y .rest ∙ ap (λ (k : ℕ). drop k middle) (sym e) ∙ sym (drop-drop (at - from) from middle) ∙ ap (drop (at - from)) (w .rest)
             ∙ drop-drop (at - from) from area ∙ ap (λ (k : ℕ). drop k area) e
 
-module _ (plan : List ℕ) (n : ℕ) (schedule area : List ℕ) where
-  pub next-stages : nextRefused plan n schedule ≡ orElse (scheduleRefusal plan schedule) (firstRefusal (checkWhole 18 (overBound n) ∷ []))
-  unfolding nextRefused scheduleRefusal
-  next-stages = refusal-append (scheduleChecks plan schedule) (checkWhole 18 (overBound n) ∷ [])
+module _
+    (plan : List ℕ) (n : ℕ) (schedule area : List ℕ) (r : Checked) (h : check.answered r ≡ scheduleRefusal plan schedule) (e : r ≡ checked.Passed)
+  where
+    pub given-plan : (words : List ℕ) → Loaded plan (terms plan) words → Accepted plan words
+    given-plan words l = record { plan-passes = scheduled-by-code plan schedule r h e .plan-passes; loaded = l }
 
-  module _ (r : Checked) (h : check.answered r ≡ scheduleRefusal plan schedule) where
-    pub next-refused : (k i : ℕ) → r ≡ checked.Refused k i → NextAnswer plan n schedule area (papers.Next.refused (record { number = k; place = i })) area
-    next-refused k i e = NextAnswer.REFUSED (next-stages ∙ first-or _ _ _ (refused-is _ r k i h e))
+    pub given-picks : OfEight schedule
+    given-picks j b = let k = scheduled-by-code plan schedule r h e .small j b in omega arith
 
-    module _ (e : r ≡ checked.Passed) where
-      pub given-plan : (words : List ℕ) → Loaded plan (terms plan) words → Accepted plan words
-      given-plan words l = record { plan-passes = scheduled-by-code plan schedule r h e .plan-passes; loaded = l }
-
-      pub given-picks : OfEight schedule
-      given-picks j b = let k = scheduled-by-code plan schedule r h e .small j b in omega arith
-
-      pub next-over-bound : 64 < n → NextAnswer plan n schedule area (papers.Next.refused (numbered 18)) area
-      unfolding overBound
-      next-over-bound b = NextAnswer.REFUSED (next-stages ∙ then-other _ _ (passed-is _ r h e) ∙ refuses 18 (overBound n) [] (lt-ltb 64 n b))
-
-      module _ (b : n ≤ 64) where
-        next-none : nextRefused plan n schedule ≡ none
-        unfolding overBound firstRefusal
-        next-none = next-stages ∙ then-other _ _ (passed-is _ r h e) ∙ passes 18 (overBound n) [] (le-ltb 64 n b)
-
-        pub next-not-listed : (Listed (programOf plan) n schedule → ⊥) → NextAnswer plan n schedule area (papers.Next.refused (numbered 19)) area
-        next-not-listed l = NextAnswer.NOT-LISTED next-none l
-
-        module _ (l : Listed (programOf plan) n schedule) where
-          pub next-short : length area < n → NextAnswer plan n schedule area (papers.Next.refused (numbered 20)) area
-          next-short s = NextAnswer.SHORT next-none l s
-
-          pub next-followed : n ≤ length area → (after : List ℕ) (a : Next) → Followed (programOf plan) n schedule area after a
-              → NextAnswer plan n schedule area (answered a) after
-          next-followed s after (next.Refused k i) f = absurd f
-          next-followed s after (next.Written m) (qs, f, d, q) =
-              along (λ (k : ℕ). NextAnswer plan n schedule area (papers.Next.written k) after) (sym d)
-              (along (NextAnswer plan n schedule area (papers.Next.written (length qs))) (sym q) (NextAnswer.FOLLOWS next-none l s f))
-          next-followed s after next.Over (f, q) = along (NextAnswer plan n schedule area papers.Next.over) (sym q) (NextAnswer.OVER next-none l s f)
+    pub next-followed : n ≤ 64 → Listed (programOf plan) n schedule → n ≤ length area → (after : List ℕ) (a : Next)
+        → Followed (programOf plan) n schedule area after a → NextAnswer plan n schedule area (answered a) after
+    next-followed b l s after (next.Refused k i) f = absurd f
+    next-followed b l s after (next.Written m) (qs, f, d, q) =
+        along (λ (k : ℕ). NextAnswer plan n schedule area (papers.Next.written k) after) (sym d)
+        (along (NextAnswer plan n schedule area (papers.Next.written (length qs))) (sym q) (next-written plan n schedule area r h e b l s qs f))
+    next-followed b l s after next.Over (f, q) = along (NextAnswer plan n schedule area papers.Next.over) (sym q) (next-over plan n schedule area r h e b l s f)
 
 -- ---- counting
 

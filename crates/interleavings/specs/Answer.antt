@@ -1,5 +1,5 @@
 -- What the answer of `next_interleaving` says, for each of its cases. Assumes nothing.
-use Rattle.interleavings.specs.Interleavings as papers
+use Rattle.listing_answers.specs.Interleavings as papers
 use Rattle.interleavings.specs.declared.Next.{Next}
 use Rattle.interleavings.specs.declared.Next.the-variants.{Refused, Written, Over}
 

@@ -8,7 +8,7 @@ use Rattle.format.specs.Refusal.{Refusal, checkWhole, firstRefusal}
 use Rattle.plan_packed.specs.Trees.{programOf}
 use Rattle.plan_packed.specs.Check.{checks}
 use Rattle.listing.specs.WholeList.{WholeList}
-use Rattle.interleavings.specs.Interleavings.{overBound}
+use Rattle.listing_answers.specs.Interleavings.{overBound}
 use Rattle.interleavings.specs.declared.Counted.{Counted}
 use Rattle.interleavings.specs.declared.Counted.the-variants as counted
 

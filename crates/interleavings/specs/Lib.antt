@@ -1,4 +1,3 @@
-pub mod Interleavings
 pub mod Answer
 pub mod Count
 pub mod inner

@@ -2,7 +2,7 @@
 // there are.
 ghost use Rattle.plan_packed.specs.Trees.{programOf};
 ghost use Rattle.answers.specs.Answer as answer;
-ghost use Rattle.interleavings.specs.Interleavings.{FirstAnswer, NextAnswer};
+ghost use Rattle.listing_answers.specs.Interleavings.{FirstAnswer, NextAnswer};
 ghost use Rattle.interleavings.specs.Answer.{answered};
 ghost use Rattle.interleavings.specs.Count.{CountAnswer};
 ghost use Rattle.interleavings.specs.inner.Steps.{Begins, Reached, Listing, Followed, Stands, Advanced, CountsOn};

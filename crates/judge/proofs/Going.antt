@@ -22,9 +22,9 @@ use Rattle.log_conflicts.specs.Conflicts.{Conflicting}
 use Rattle.log_conflicts.specs.Judge.{Names, names-none}
 use Rattle.log_conflicts.proofs.FirstConflict.{Threads}
 use Rattle.log_conflicts.proofs.RowClocks.{heard-start, kept-start}
-use Rattle.log_clocks.specs.inner.Rows.{Row, clockOf, noRow}
-use Rattle.log_effects.specs.inner.Rows.{placeRow}
-use Rattle.log_effects.specs.inner.Table.{Wide, clockAt, Started}
+use Rattle.log_clocks.specs.inner.Rows.{Row, clockOf, noRow, rowAt}
+use Rattle.log_rows.specs.inner.Rows.{placeRow}
+use Rattle.log_row_stores.specs.inner.Table.{Sound, clockAt, Started}
 use Rattle.judge.specs.inner.Clear.{Clear}
 use Rattle.judge.proofs.PlaceNumbers.{Places, places-start}
 use Rattle.judge.proofs.PortRows.{rowOf, Valid}
@@ -37,7 +37,7 @@ before b i = past (logOf b) i
 pub record Going (v : Version) (b : List ℕ) (places i : ℕ) (N : List ℕ) (given : ℕ) (rows : List Row) : Type 0 where
   pub most : places ≤ 1024
   pub room : placeRow places + 2 < length rows
-  pub wide : Wide rows
+  pub sound : Sound rows
   pub numbers : Places N given
   pub few : given ≤ i
   pub within : given ≤ places
@@ -62,7 +62,7 @@ module _ (v : Version) (places : ℕ) (rows after : List Row) (C : Clear places 
       go u (no n) = inr (no-clock q u (λ h. n))
 
       own : (t : ℕ) → ofThread q ≡ ofThread t → 4096 ≤ clockAt after q t
-      own t e = let same : q ≡ t = cc in let k : clockAt after q t ≡ 65535 = subst (λ (x : ℕ). clockAt after q x ≡ 65535) same (A .own q w) in omega arith
+      own t e = let same : q ≡ t = cc in let k : clockAt after q t ≡ 32767 = subst (λ (x : ℕ). clockAt after q x ≡ 32767) same (A .own q w) in omega arith
   shown-start (ofMonitor o) w =
       heard-start v (ofMonitor o) (clocks N after (ofMonitor o)) (λ u h. inr (no-clock (rowOf N (ofMonitor o)) u (λ k. absurd (omega arith))))
       (λ t e. absurd (apart e))
@@ -86,7 +86,7 @@ module _ (v : Version) (places : ℕ) (rows after : List Row) (C : Clear places 
       record {
         most = C .most;
         room = omega (arith, C .room, A .long);
-        wide = A .wide;
+        sound = A .sound;
         numbers = places-start;
         few = omega arith;
         within = omega arith;
@@ -101,11 +101,14 @@ clear-rows places long h k =
     record {
       most = h;
       room = subst (λ (m : ℕ). placeRow places + 2 < m) (sym (length-replicate {A = Row} long (replicate 8 0))) k;
-      wide = wide;
-      zero = λ q u. repeated long q (replicate 8 0) noRow (λ (r : Row). clockOf r u ≡ 0) (zeros 8 u) refl;
+      sound = record { wide = wide; low = λ q u. omega (arith, zero q u) };
+      zero = zero;
     }
   where
-    wide : Wide (replicate long (replicate 8 0))
+    zero : (q u : ℕ) → clockAt (replicate long (replicate 8 0)) q u ≡ 0
+    zero q u = repeated long q (replicate 8 0) noRow (λ (r : Row). clockOf r u ≡ 0) (zeros 8 u) refl
+
+    wide : (q : ℕ) → q < length (replicate {A = Row} long (replicate 8 0)) → length (rowAt (replicate long (replicate 8 0)) q) ≡ 8
     wide q b =
         ap length (getD-replicate {A = Row} long q (replicate 8 0) noRow (omega (arith, length-replicate {A = Row} long (replicate 8 0))))
         ∙ length-replicate {A = ℕ} 8 0

@@ -1,5 +1,6 @@
--- The pass at a record of a log that is not refused: its place, what the table must be for it, and whether it is an unordered access. Assumes nothing.
-use Prim.Native.Nat.{ℕ, zero, suc, _+_, _*_, _/_, _%_, _<_, _≤_, max}
+-- The pass at a record of a log that is not refused: what the table must be for it, the number of its place, and whether it is an unordered access. Assumes
+-- nothing.
+use Prim.Native.Nat.{ℕ, zero, suc, _+_, _*_, _/_, _%_, _<_, _≤_}
 use native.Mathlib.Omega.{arith}
 use native.Mathlib.Decide.{ℕ-discrete, decLt}
 use mathlib.Core.Path.{_≡_, refl, sym, ap, subst, _∙_}
@@ -13,7 +14,7 @@ use borrow.Author.Tests.{ltb-true, ltb-false}
 use Rattle.format.specs.Version.{Version}
 use Rattle.format.proofs.RefusalLaws.{neither}
 use Rattle.log_records.specs.Record.{Kind, readv, writev, acquire, release, fork, join, Record, isPlain}
-use Rattle.log_records.specs.Packed.{kindOf, recordAt, recordCount, logOf}
+use Rattle.log_records.specs.Packed.{kindOf, kindAt, recordAt, recordCount, logOf}
 use Rattle.log_records.specs.Refusals.{wrongColumns, logRefusal}
 use Rattle.log_records.proofs.RoundTrip.{count-log, log-element}
 use Rattle.log_records.proofs.Accepted.{RightRecord, accepted}
@@ -27,14 +28,13 @@ use Rattle.log_conflicts.specs.Judge.{Names, names-first}
 use Rattle.log_conflicts.proofs.Conflicts.{Eight, held, heldBy}
 use Rattle.log_conflicts.proofs.FirstConflict.{conflicting↔, at-past}
 use Rattle.log_conflicts.proofs.RowClocks.{Kept, lower→clash, clash→lower}
-use Rattle.log_decoding.specs.inner.Columns.{ReadAt}
-use Rattle.log_decoding.specs.declared.Columns.{Columns}
-use Rattle.log_decoding.proofs.Decoded.{kind-is-kind}
+use Rattle.log_packing.proofs.Decoded.{kind-is-kind, thread-of-word, object-of-word, field-of-word}
 use Rattle.log_clocks.specs.inner.Rows.{Row, clockOf, rowAt, lowerOf}
-use Rattle.log_effects.specs.inner.Places.{Numbered, known, next, full}
-use Rattle.log_effects.specs.inner.Rows.{placeRow, isAccess, heldRow}
-use Rattle.log_effects.specs.inner.Table.{clockAt, Ready}
-use Rattle.judge.proofs.PlaceNumbers.{Placed, placed, given-below}
+use Rattle.log_places.specs.inner.Places.{placeAt, Numbered, known, next, full}
+use Rattle.log_rows.specs.inner.Rows.{placeRow, isAccess, heldRow}
+use Rattle.log_row_stores.specs.inner.Table.{clockAt}
+use Rattle.log_effects.specs.inner.Step.{Ready}
+use Rattle.judge.proofs.PlaceNumbers.{Places, Placed, placed, given-below}
 use Rattle.judge.proofs.PortRows.{rowOf}
 use Rattle.judge.proofs.RecordPorts.{Fits, is-fork, is-join, access-plain, write-kind}
 use Rattle.judge.proofs.Table.{Shows, Blank, shows-placed, blank-more, clocks}
@@ -91,19 +91,21 @@ lower-none a b (suc n) e u h k =
         omega (arith, ltb-false (clockOf a n) (clockOf b n) y)
     go (no g) y ih = ih (omega arith)
 
--- the pass is at record i, whose columns are c, and whose place then has the number n
-pub record Here (v : Version) (b : List ℕ) (places i : ℕ) (N : List ℕ) (given : ℕ) (rows : List Row) (c : Columns) (N′ : List ℕ) (n : ℕ) : Type 0 where
+-- the pass is at record i
+pub record Here (v : Version) (b : List ℕ) (places i : ℕ) (N : List ℕ) (given : ℕ) (rows : List Row) : Type 0 where
   pub accepted-log : logRefusal b ≡ none
   pub below : i < length b / 3
-  pub read : ReadAt b i c
   pub going : Going v b places i N given rows
-  pub numbered : Numbered N (c .object * 32 + c .field) given places N′ n
 
-module _ {v : Version} {b : List ℕ} {places i : ℕ} {N : List ℕ} {given : ℕ} {rows : List Row} {c : Columns} {N′ : List ℕ} {n : ℕ}
-    (W : Here v b places i N given rows c N′ n) where
-  abbrev R : ReadAt b i c
-  R = W .read
+-- what holds there once the record's place has its number, if the record is at a place
+pub record Stands (v : Version) (b : List ℕ) (places i : ℕ) (N : List ℕ) (given : ℕ) (rows : List Row) : Type 0 where
+  pub numbers : Places N given
+  pub few : given ≤ i + 1
+  pub within : given ≤ places
+  pub blank : Blank given rows
+  pub shows : Shows v (before b i) N rows
 
+module _ {v : Version} {b : List ℕ} {places i : ℕ} {N : List ℕ} {given : ℕ} {rows : List Row} (W : Here v b places i N given rows) where
   abbrev G : Going v b places i N given rows
   G = W .going
 
@@ -117,21 +119,21 @@ module _ {v : Version} {b : List ℕ} {places i : ℕ} {N : List ℕ} {given : �
   right : RightRecord b i
   right = accepted b (W .accepted-log) .right i inside
 
-  pub kind-here : recordAt b i .kind ≡ kindOf (c .kind)
-  kind-here = kind-is-kind b i ∙ ap kindOf (sym (R .kind-is))
+  pub kind-here : recordAt b i .kind ≡ kindOf (kindAt b i)
+  kind-here = kind-is-kind b i
 
-  pub kind-least : 0 < c .kind
-  kind-least = omega (arith, R .kind-is, right .kind-least)
+  pub kind-least : 0 < kindAt b i
+  kind-least = omega (arith, right .kind-least)
 
-  pub kind-most : c .kind ≤ 11
-  kind-most = omega (arith, R .kind-is, right .kind-most)
+  pub kind-most : kindAt b i ≤ 11
+  kind-most = omega (arith, right .kind-most)
 
   pub fits : Fits (recordAt b i)
   fits =
       record {
-        thread-fits = omega (arith, R .thread-is, R .narrow .thread-below);
-        object-fits = omega (arith, R .object-is, R .narrow .object-below);
-        field-fits = omega (arith, R .field-is, R .narrow .field-below);
+        thread-fits = omega (arith, thread-of-word b i);
+        object-fits = omega (arith, object-of-word b i);
+        field-fits = omega (arith, field-of-word b i);
         fork-fits = λ e. fork-field _ _ _ e (right .columns);
         join-fits = λ e. join-field _ _ _ e (right .columns);
         acquire-fits = λ e. monitor-field _ _ _ (inl e) (right .columns);
@@ -158,112 +160,110 @@ module _ {v : Version} {b : List ℕ} {places i : ℕ} {N : List ℕ} {given : �
   pub next-past : before b (suc i) ≡ recordAt b i ∷ before b i
   next-past = past-suc (logOf b) i r within ∙ ap (λ (x : Record). x ∷ before b i) (at→getD (logOf b) i r r at-here)
 
-  place-below : c .object * 32 + c .field < 1024
-  place-below = omega (arith, R .narrow .object-below, R .narrow .field-below)
+  place-below : placeAt b i < 1024
+  place-below = omega (arith, fits .object-fits, fits .field-fits)
+
+  pub ready : Ready b i places N rows
+  ready =
+      record {
+        numbers = record { below = W .below; most-below = G .most; long = G .numbers .long };
+        short = short;
+        field-below = thread-field;
+        numbered = λ p. let m = G .numbers .most p in omega (arith, G .within);
+        sound = G .sound;
+        room = G .room;
+      }
+    where
+      thread-field : (kindAt b i ≡ 8) ⊎ (kindAt b i ≡ 9) → r .field < 8
+      thread-field (inl k) = fits .fork-fits (is-fork v r (kindAt b i) kind-least kind-most kind-here fits k)
+      thread-field (inr k) = fits .join-fits (is-join v r (kindAt b i) kind-least kind-most kind-here fits k)
+
+  -- ---- the number of the record's place
 
   -- all numbers are given, and there are more places
-  pub none-left : n ≡ 0 → (places < recordCount b) × (places < 1024)
-  none-left e = go (W .numbered) e
+  pub none-left : {N′ : List ℕ} {given′ n : ℕ} → Numbered N given (placeAt b i) places N′ given′ n → n ≡ 0 → (places < recordCount b) × (places < 1024)
+  none-left (known k) z = absurd (omega arith)
+  none-left (next k l) z = absurd (omega arith)
+  none-left (full k l) z = (omega (arith, G .few, inside), omega (arith, given-below (G .numbers) (placeAt b i) place-below k))
+
+  -- a record at no place
+  pub unnumbered : Stands v b places i N given rows
+  unnumbered = record { numbers = G .numbers; few = omega (arith, G .few); within = G .within; blank = G .blank; shows = G .shows }
+
+  pub placed-here : {N′ : List ℕ} {given′ n : ℕ} → Numbered N given (placeAt b i) places N′ given′ n → (n ≡ 0 → ⊥) → Placed N′ given′ (placeAt b i) n
+  placed-here P some-number = placed (G .numbers) place-below P some-number
+
+  pub numbered-here : {N′ : List ℕ} {given′ n : ℕ} → Numbered N given (placeAt b i) places N′ given′ n → (n ≡ 0 → ⊥) → Stands v b places i N′ given′ rows
+  numbered-here {N′} {given′} P some-number =
+      record {
+        numbers = placed-here P some-number .places;
+        few = bounds P .0;
+        within = bounds P .1;
+        blank = blank-more given given′ rows (more P) (G .blank);
+        shows = shows-placed v (before b i) eight (G .numbers) place-below rows (G .blank) (G .shows) P;
+      }
     where
-      go : {M : List ℕ} {m : ℕ} → Numbered N (c .object * 32 + c .field) given places M m → m ≡ 0 → (places < recordCount b) × (places < 1024)
-      go (known k) z = absurd (omega arith)
-      go (next k l) z = absurd (omega arith)
-      go (full k l) z = (omega (arith, G .few, inside), omega (arith, given-below (G .numbers) (c .object * 32 + c .field) place-below k))
+      bounds : {M : List ℕ} {more m : ℕ} → Numbered N given (placeAt b i) places M more m → (more ≤ i + 1) × (more ≤ places)
+      bounds (known k) = (omega (arith, G .few), G .within)
+      bounds (next k l) = (omega (arith, G .few), omega arith)
+      bounds (full k l) = (omega (arith, G .few), G .within)
 
-  -- ---- a place with a number
+      more : {M : List ℕ} {later m : ℕ} → Numbered N given (placeAt b i) places M later m → given ≤ later
+      more (known k) = omega arith
+      more (next k l) = omega arith
+      more (full k l) = omega arith
 
-  module _ (some-number : n ≡ 0 → ⊥) where
-    abbrev given′ : ℕ
-    given′ = max given n
+  -- ---- whether it is an unordered access
 
-    placed-here : Placed N′ given′ (c .object * 32 + c .field) n
-    placed-here = placed N N′ given given′ (c .object * 32 + c .field) n places (G .numbers) place-below (W .numbered) some-number refl
+  module _ {N′ : List ℕ} {given′ n : ℕ} (S : Stands v b places i N′ given′ rows) (P : Placed N′ given′ (placeAt b i) n)
+      (access : isAccess (kindAt b i) ≡ true) where
+    pub plain : T (isPlain (recordAt b i .kind))
+    plain = rw (kind-here, ← access-plain (kindAt b i) kind-least kind-most, access) tt
 
-    pub placed-at : Placed N′ (max given n) (recordAt b i .object * 32 + recordAt b i .field) n
-    placed-at = rw (← R .object-is, ← R .field-is) placed-here
-
-    pub number-most : (n ≤ i + 1) × (n ≤ places)
-    number-most = go (W .numbered)
+    held-row : rowOf N′ (held r) ≡ heldRow (kindAt b i) (placeRow n)
+    held-row = go (isWrite (r .kind)) refl (isPlain (r .kind)) refl
       where
-        go : {M : List ℕ} {m : ℕ} → Numbered N (c .object * 32 + c .field) given places M m → (m ≤ i + 1) × (m ≤ places)
-        go (known k) = let m = G .numbers .most (c .object * 32 + c .field) in (omega (arith, G .few), omega (arith, G .within))
-        go (next k l) = (omega (arith, G .few), omega arith)
-        go (full k l) = (omega arith, omega arith)
+        write-is : eqb (kindAt b i % 8) 3 ≡ isWrite (r .kind)
+        write-is = write-kind (kindAt b i) kind-least kind-most ∙ ap isWrite (sym kind-here)
 
-    pub shows-here : Shows v (before b i) N′ rows
-    shows-here =
-        shows-placed v (before b i) eight N N′ given (c .object * 32 + c .field) n places (G .numbers) place-below rows (G .blank) (G .shows) (W .numbered)
+        row : placeRow (getD N′ (r .object * 32 + r .field) 0) ≡ placeRow n
+        row = ap placeRow (P .number)
 
-    pub blank-here : Blank (max given n) rows
-    blank-here = blank-more given given′ rows (omega arith) (G .blank)
+        go : (x : Bool) → isWrite (r .kind) ≡ x → (y : Bool) → isPlain (r .kind) ≡ y
+            → rowOf N′ (heldBy x y (r .thread) (r .object) (r .field)) ≡ heldRow (kindAt b i) (placeRow n)
+        go true e y g = ap (λ (m : ℕ). m + 1) row ∙ rw (write-is, e)
+        go false e true g = ap (λ (m : ℕ). m + 2) row ∙ rw (write-is, e)
+        go false e false g = absurd (subst T g plain)
 
-    pub ready : (at : ℕ) → at ≡ placeRow n → Ready c at rows
-    ready at e =
-        record {
-          wide = G .wide;
-          thread-below = R .narrow .thread-below;
-          field-below = λ k. omega (arith, R .field-is, thread-field k);
-          at-least = omega arith;
-          at-most = omega (arith, number-most .1, G .most);
-          room = omega (arith, number-most .1, G .room);
-        }
+    kept-held : Kept v (before b i) (held r) (clockAt rows (heldRow (kindAt b i) (placeRow n)))
+    unfolding Shows
+    kept-held = subst (λ (q : ℕ). Kept v (before b i) (held r) (clockAt rows q)) held-row (go (isWrite (r .kind)) refl (isPlain (r .kind)) refl)
       where
-        thread-field : (c .kind ≡ 8) ⊎ (c .kind ≡ 9) → r .field < 8
-        thread-field (inl k) = fits .fork-fits (is-fork v r (c .kind) kind-least kind-most kind-here fits k)
-        thread-field (inr k) = fits .join-fits (is-join v r (c .kind) kind-least kind-most kind-here fits k)
+        go : (x : Bool) → isWrite (r .kind) ≡ x → (y : Bool) → isPlain (r .kind) ≡ y
+            → Kept v (before b i) (heldBy x y (r .thread) (r .object) (r .field)) (clocks N′ rows (heldBy x y (r .thread) (r .object) (r .field)))
+        go true e y g = S .shows (ofAccesses (r .object) (r .field)) (fits .object-fits, fits .field-fits)
+        go false e true g = S .shows (ofWrites (r .object) (r .field)) (fits .object-fits, fits .field-fits)
+        go false e false g = absurd (subst T g plain)
 
-    -- ---- whether it is an unordered access
+    -- the test says whether it conflicts with an access that does not reach it
+    pub late-names : lowerOf 8 (rowAt rows (r .thread)) (rowAt rows (heldRow (kindAt b i) (placeRow n))) ≡ true → Names v (logOf b) (some i)
+    unfolding Shows
+    late-names e =
+        let l = lower-some (rowAt rows (r .thread)) (rowAt rows (heldRow (kindAt b i) (placeRow n))) 8 e in
+        names-first (conflicting↔ v (logOf b) i r at-here .0
+        (lower→clash v (before b i) r plain (S .shows (ofThread (r .thread)) (fits .thread-fits)) kept-held (l .0) (l .1 .0) (l .1 .1)))
+        (λ j k. not-below j k)
+      where
+        not-below : (j : ℕ) → Conflicting v (logOf b) j → i ≤ j
+        not-below j k = go (decLt j i)
+          where
+            go : Dec (j < i) → i ≤ j
+            go (yes h) = absurd (G .none-late j h k)
+            go (no h) = omega arith
 
-    module _ (access : isAccess (c .kind) ≡ true) (at : ℕ) (at-is : at ≡ placeRow n) where
-      pub plain : T (isPlain (recordAt b i .kind))
-      plain = rw (kind-here, ← access-plain (c .kind) kind-least kind-most, access) tt
-
-      held-row : rowOf N′ (held r) ≡ heldRow (c .kind) at
-      held-row = go (isWrite (r .kind)) refl (isPlain (r .kind)) refl
-        where
-          write-is : eqb (c .kind % 8) 3 ≡ isWrite (r .kind)
-          write-is = write-kind (c .kind) kind-least kind-most ∙ ap isWrite (sym kind-here)
-
-          row : placeRow (getD N′ (r .object * 32 + r .field) 0) ≡ at
-          row = ap placeRow (placed-at .number) ∙ sym at-is
-
-          go : (x : Bool) → isWrite (r .kind) ≡ x → (y : Bool) → isPlain (r .kind) ≡ y
-              → rowOf N′ (heldBy x y (r .thread) (r .object) (r .field)) ≡ heldRow (c .kind) at
-          go true e y g = ap (λ (m : ℕ). m + 1) row ∙ rw (write-is, e)
-          go false e true g = ap (λ (m : ℕ). m + 2) row ∙ rw (write-is, e)
-          go false e false g = absurd (subst T g plain)
-
-      kept-held : Kept v (before b i) (held r) (clockAt rows (heldRow (c .kind) at))
-      unfolding Shows
-      kept-held = subst (λ (q : ℕ). Kept v (before b i) (held r) (clockAt rows q)) held-row (go (isWrite (r .kind)) refl (isPlain (r .kind)) refl)
-        where
-          go : (x : Bool) → isWrite (r .kind) ≡ x → (y : Bool) → isPlain (r .kind) ≡ y
-              → Kept v (before b i) (heldBy x y (r .thread) (r .object) (r .field)) (clocks N′ rows (heldBy x y (r .thread) (r .object) (r .field)))
-          go true e y g = shows-here (ofAccesses (r .object) (r .field)) (fits .object-fits, fits .field-fits)
-          go false e true g = shows-here (ofWrites (r .object) (r .field)) (fits .object-fits, fits .field-fits)
-          go false e false g = absurd (subst T g plain)
-
-      -- the test says whether it conflicts with an access that does not reach it
-      pub late-names : lowerOf 8 (rowAt rows (c .thread)) (rowAt rows (heldRow (c .kind) at)) ≡ true → Names v (logOf b) (some i)
-      unfolding Shows
-      late-names e =
-          let l = lower-some (rowAt rows (c .thread)) (rowAt rows (heldRow (c .kind) at)) 8 e in
-          names-first (conflicting↔ v (logOf b) i r at-here .0
-          (lower→clash v (before b i) r plain (shows-here (ofThread (r .thread)) (fits .thread-fits)) kept-held (l .0) (l .1 .0)
-          (subst (λ (t : ℕ). clockAt rows t (l .0) < clockAt rows (heldRow (c .kind) at) (l .0)) (R .thread-is) (l .1 .1))))
-          (λ j k. not-below j k)
-        where
-          not-below : (j : ℕ) → Conflicting v (logOf b) j → i ≤ j
-          not-below j k = go (decLt j i)
-            where
-              go : Dec (j < i) → i ≤ j
-              go (yes h) = absurd (G .none-late j h k)
-              go (no h) = omega arith
-
-      pub on-time : lowerOf 8 (rowAt rows (c .thread)) (rowAt rows (heldRow (c .kind) at)) ≡ false → Conflicting v (logOf b) i → ⊥
-      unfolding Shows
-      on-time e k =
-          let l = clash→lower v (before b i) r plain (shows-here (ofThread (r .thread)) (fits .thread-fits)) kept-held eight
-          (conflicting↔ v (logOf b) i r at-here .1 k) in
-          lower-none (rowAt rows (c .thread)) (rowAt rows (heldRow (c .kind) at)) 8 e (l .0) (l .1 .0)
-          (subst (λ (t : ℕ). clockAt rows t (l .0) < clockAt rows (heldRow (c .kind) at) (l .0)) (sym (R .thread-is)) (l .1 .1))
+    pub on-time : lowerOf 8 (rowAt rows (r .thread)) (rowAt rows (heldRow (kindAt b i) (placeRow n))) ≡ false → Conflicting v (logOf b) i → ⊥
+    unfolding Shows
+    on-time e k =
+        let l = clash→lower v (before b i) r plain (S .shows (ofThread (r .thread)) (fits .thread-fits)) kept-held eight
+        (conflicting↔ v (logOf b) i r at-here .1 k) in
+        lower-none (rowAt rows (r .thread)) (rowAt rows (heldRow (kindAt b i) (placeRow n))) 8 e (l .0) (l .1 .0) (l .1 .1)

@@ -1,5 +1,5 @@
 -- The numbers of places: no two places have one number, and there are as many numbers as places that have one. Assumes nothing.
-use Prim.Native.Nat.{ℕ, zero, suc, _+_, _<_, _≤_, max}
+use Prim.Native.Nat.{ℕ, zero, suc, _+_, _<_, _≤_}
 use native.Mathlib.Omega.{arith}
 use native.Mathlib.Decide.{ℕ-discrete}
 use mathlib.Core.Path.{_≡_, refl, sym, ap, subst, _∙_}
@@ -10,7 +10,7 @@ use lib.ListN.{length, getD, set, replicate, length-set, length-replicate}
 use lib.Seq.{getD-set-same, getD-set-other}
 use borrow.Author.Tests.{ne-eqb}
 use Rattle.format.proofs.Filled.{zeros}
-use Rattle.log_effects.specs.inner.Places.{Numbered, known, next, full}
+use Rattle.log_places.specs.inner.Places.{Numbered, known, next, full}
 
 -- how many places have no number
 abbrev unnumbered : List ℕ → ℕ
@@ -95,18 +95,12 @@ pub record Placed (N : List ℕ) (given p n : ℕ) : Type 0 where
 pub given-most : {N : List ℕ} {given : ℕ} → Places N given → given ≤ 1024
 given-most P = omega (arith, P .left)
 
-pub placed : (N N′ : List ℕ) (given given′ p n most : ℕ) → Places N given → p < 1024 → Numbered N p given most N′ n → (n ≡ 0 → ⊥) → given′ ≡ max given n
+pub placed : {N N′ : List ℕ} {given given′ p n most : ℕ} → Places N given → p < 1024 → Numbered N given p most N′ given′ n → (n ≡ 0 → ⊥)
     → Placed N′ given′ p n
-placed N N′ given given′ p n most P h (known k) m e =
-    record { places = subst (Places N) (let m = P .most p in omega arith) P; number = refl; some = k }
-placed N N′ given given′ p n most P h (next k l) m e =
-    record {
-      places = subst (Places (set N p (given + 1))) (omega arith) (places-next N given p P h k);
-      number = numbered-own N given p P h k;
-      some =
-          omega arith;
-    }
-placed N N′ given given′ p n most P h (full k l) m e = absurd (m refl)
+placed P h (known k) m = record { places = P; number = refl; some = k }
+placed {N = N} {given = given} {p = p} P h (next k l) m =
+    record { places = places-next N given p P h k; number = numbered-own N given p P h k; some = omega arith }
+placed P h (full k l) m = absurd (m refl)
 
 -- while a place has no number, fewer are given than there are places
 some-left : (N : List ℕ) (p : ℕ) → p < length N → getD N p 0 ≡ 0 → 0 < unnumbered N

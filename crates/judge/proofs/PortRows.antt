@@ -6,7 +6,7 @@ use mathlib.Core.List.{List}
 use mathlib.Core.Logic.{_⊎_, inl, inr}
 use lib.ListN.{getD}
 use Rattle.log_order.proofs.Ports.{Port, ofThread, ofMonitor, ofVolatile, ofAccesses, ofWrites}
-use Rattle.log_effects.specs.inner.Rows.{placeRow}
+use Rattle.log_rows.specs.inner.Rows.{placeRow}
 use Rattle.judge.proofs.PlaceNumbers.{Places}
 
 -- the row of a port; a monitor's place has field 0

@@ -14,7 +14,7 @@ use Rattle.log_records.proofs.KindNumbers.{by-kind}
 use Rattle.log_order.specs.Accesses.{isWrite}
 use Rattle.log_order.proofs.Ports.{Port, ofThread, ofMonitor, ofVolatile, ofAccesses, ofWrites, Feeds}
 use Rattle.log_conflicts.proofs.Clock.{second, secondPort}
-use Rattle.log_effects.specs.inner.Rows.{placeRow, isAccess, passes}
+use Rattle.log_rows.specs.inner.Rows.{placeRow, isAccess, orderingKind, passes}
 use Rattle.judge.proofs.PlaceNumbers.{Placed}
 use Rattle.judge.proofs.PortRows.{rowOf, Valid, HasRow}
 
@@ -140,7 +140,7 @@ moves a b c d = record { fed-is = a; drawn-is = b; no-access = c; no-write = d }
 
 module _ (t o f x : ℕ) where
   abbrev Hears : Version → ℕ → Type 0
-  Hears v k = Fits (entry (kindOf k) t o f x) → passes v 6 4 k ≡ true → Hearing v (entry (kindOf k) t o f x)
+  Hears v k = Fits (entry (kindOf k) t o f x) → passes 6 (orderingKind v 4) k ≡ true → Hearing v (entry (kindOf k) t o f x)
 
   hears-by : (v : Version) (k : ℕ) → 0 < k → k ≤ 11 → Hears v k
   unfolding kindOf
@@ -159,7 +159,7 @@ module _ (t o f x : ℕ) where
       no e = absurd (true≢false (sym e))
 
   abbrev Tells : Version → ℕ → Type 0
-  Tells v k = Fits (entry (kindOf k) t o f x) → passes v 7 5 k ≡ true → Telling v (entry (kindOf k) t o f x)
+  Tells v k = Fits (entry (kindOf k) t o f x) → passes 7 (orderingKind v 5) k ≡ true → Telling v (entry (kindOf k) t o f x)
 
   tells-by : (v : Version) (k : ℕ) → 0 < k → k ≤ 11 → Tells v k
   unfolding kindOf
@@ -178,7 +178,8 @@ module _ (t o f x : ℕ) where
       no e = absurd (true≢false (sym e))
 
   abbrev Rests : Version → ℕ → Type 0
-  Rests v k = isAccess k ≡ false → passes v 6 4 k ≡ false → passes v 7 5 k ≡ false → (k ≡ 8 → ⊥) → (k ≡ 9 → ⊥) → Moves v (entry (kindOf k) t o f x) none none
+  Rests v k = isAccess k ≡ false → passes 6 (orderingKind v 4) k ≡ false → passes 7 (orderingKind v 5) k ≡ false → (k ≡ 8 → ⊥) → (k ≡ 9 → ⊥)
+      → Moves v (entry (kindOf k) t o f x) none none
 
   rests-by : (v : Version) (k : ℕ) → 0 < k → k ≤ 11 → Rests v k
   unfolding kindOf
@@ -198,13 +199,14 @@ module _ (v : Version) (r : Record) (k : ℕ) (least : 0 < k) (most : k ≤ 11) 
   fits-too : Fits (entry (kindOf k) (r .thread) (r .object) (r .field) (r .value))
   fits-too = subst (λ (κ : Kind). Fits (entry κ (r .thread) (r .object) (r .field) (r .value))) kind-is fits
 
-  pub hearing : passes v 6 4 k ≡ true → Hearing v r
+  pub hearing : passes 6 (orderingKind v 4) k ≡ true → Hearing v r
   hearing h = of-kind (Hearing v) (hears-by (r .thread) (r .object) (r .field) (r .value) v k least most fits-too h)
 
-  pub telling : passes v 7 5 k ≡ true → Telling v r
+  pub telling : passes 7 (orderingKind v 5) k ≡ true → Telling v r
   telling h = of-kind (Telling v) (tells-by (r .thread) (r .object) (r .field) (r .value) v k least most fits-too h)
 
-  pub resting : isAccess k ≡ false → passes v 6 4 k ≡ false → passes v 7 5 k ≡ false → (k ≡ 8 → ⊥) → (k ≡ 9 → ⊥) → Moves v r none none
+  pub resting : isAccess k ≡ false → passes 6 (orderingKind v 4) k ≡ false → passes 7 (orderingKind v 5) k ≡ false → (k ≡ 8 → ⊥) → (k ≡ 9 → ⊥)
+      → Moves v r none none
   resting a h g m n = of-kind (λ (s : Record). Moves v s none none) (rests-by (r .thread) (r .object) (r .field) (r .value) v k least most a h g m n)
 
   pub is-fork : k ≡ 8 → r .kind ≡ fork

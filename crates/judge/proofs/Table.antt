@@ -17,9 +17,9 @@ use Rattle.log_conflicts.proofs.Clock.{second, feeds, feeds→, feeds←, draws
 use Rattle.log_conflicts.proofs.Conflicts.{Eight}
 use Rattle.log_conflicts.proofs.RowClocks.{Heard, Kept, heard-same, kept-same, heard-unfed, kept-unfed, heard-told, kept-fed}
 use Rattle.log_clocks.specs.inner.Rows.{Row, clockOf}
-use Rattle.log_effects.specs.inner.Places.{Numbered, known, next, full}
-use Rattle.log_effects.specs.inner.Rows.{placeRow}
-use Rattle.log_effects.specs.inner.Table.{clockAt, Stored, Keeps, Hears, Told}
+use Rattle.log_places.specs.inner.Places.{Numbered, known, next, full}
+use Rattle.log_rows.specs.inner.Rows.{placeRow}
+use Rattle.log_row_stores.specs.inner.Table.{clockAt, Stored, Keeps, Hears, Told}
 use Rattle.judge.proofs.PlaceNumbers.{Places, numbered-own, numbered-other}
 use Rattle.judge.proofs.PortRows.{rowOf, Valid, HasRow, row-once}
 use Rattle.judge.proofs.RecordPorts.{fedPort, fed-feeds, fed-one-of, accesses-fed, plain-second, Moves}
@@ -121,11 +121,11 @@ module _ (v : Version) (H : List Record) (eight : Eight H) (N : List ℕ) (given
   shows-numbered q w = shown-same v eight q w (clocks N rows q) (clocks after rows q) (row-moved q) (S q w)
 
 -- the same, whether it had one or not
-pub shows-placed : (v : Version) (H : List Record) → Eight H → (N N′ : List ℕ) (given p n most : ℕ) → Places N given → p < 1024 → (rows : List Row)
-    → Blank given rows → Shows v H N rows → Numbered N p given most N′ n → Shows v H N′ rows
-shows-placed v H ei N N′ given p n most P h rows B S (known k) = S
-shows-placed v H ei N N′ given p n most P h rows B S (next k l) = shows-numbered v H ei N given p P h k rows B S
-shows-placed v H ei N N′ given p n most P h rows B S (full k l) = S
+pub shows-placed : (v : Version) (H : List Record) → Eight H → {N N′ : List ℕ} {given given′ p n most : ℕ} → Places N given → p < 1024 → (rows : List Row)
+    → Blank given rows → Shows v H N rows → Numbered N given p most N′ given′ n → Shows v H N′ rows
+shows-placed v H ei P h rows B S (known k) = S
+shows-placed v H ei {N = N} {given = given} {p = p} P h rows B S (next k l) = shows-numbered v H ei N given p P h k rows B S
+shows-placed v H ei P h rows B S (full k l) = S
 
 pub blank-more : (given more : ℕ) (rows : List Row) → given ≤ more → Blank given rows → Blank more rows
 unfolding Blank

@@ -47,8 +47,11 @@ fn judge_version(log: &[u8], version: usize) -> Judgement
             place: wrong,
         };
     }
-    if log.len() / 3 <= 16 {
+    if log.len() / 3 <= 64 {
         return pass::short(log, version);
+    }
+    if log.len() / 3 <= 256 {
+        return pass::middle(log, version);
     }
     pass::long(log, version)
 }

@@ -7,10 +7,12 @@ ghost use Rattle.format.specs.Version.{versionOf};
 ghost use Rattle.log_records.specs.Refusals.{logRefusal};
 ghost use Rattle.log_conflicts.specs.Judge.{Answers};
 ghost use Rattle.judge.specs.Answer.{answered};
-ghost use Rattle.judge.specs.inner.Found.{Finds, judgementOf, isFull};
+ghost use Rattle.judge.specs.inner.Found.{Finds, foundOf, isEnd, judgementOf, isFull};
 ghost use Rattle.judge.specs.inner.Clear.{Clear};
 use crate::Judgement;
 use log_clocks::Row;
+use log_effects::Taking;
+use log_records::kind;
 
 // What a pass finds.
 pub enum Found {
@@ -22,35 +24,71 @@ pub enum Found {
     Full,
 }
 
+// What the pass has found at a record, by what came of it.
+fn finding(taking: Taking, index: usize) -> Found
+    ensures { λ r. ⌜ r ≡ foundOf index taking ⌝ }
+{
+    match taking {
+        Taking::Taken => Found::Nothing,
+        Taking::Unordered => Found::Access(index),
+        Taking::NoneLeft => Found::Full,
+    }
+}
+
+// The pass is at its end with a record that the table has not taken in.
+fn ended(taking: Taking) -> bool
+    ensures { λ r. ⌜ r ≡ isEnd taking ⌝ }
+{
+    match taking {
+        Taking::Taken => false,
+        Taking::Unordered => true,
+        Taking::NoneLeft => true,
+    }
+}
+
 // The pass over a log that is not refused, by its version. The table is lent, clear, with rows for so many places.
 fn pass(log: &[u8], version: usize, places: u16, table: &mut [Row]) -> Found
     requires { ⌜ logRefusal (now log) ≡ none ⌝ ∗ ⌜ Clear places (now table) ⌝ }
     ensures { λ r. ⌜ Finds (versionOf version) (now (log .entry)) places r ⌝ }
 {
     let count = log.len() / 3;
-    log_effects::table::start(table);
+    log_row_stores::start(table);
+    let read = log_rows::ordering(version, kind::VOLATILE_READ);
+    let write = log_rows::ordering(version, kind::VOLATILE_WRITE);
     let mut numbers = [0u16; 1024];
-    let mut given = 0;
+    let mut given = 0u16;
     let mut index = 0;
     while index < count {
-        let columns = log_decoding::columns_at(log, index);
-        let place = columns.object * 32 + columns.field;
-        let number = log_effects::places::number(&mut numbers, place, given, places);
-        if number == 0 {
-            return Found::Full;
-        }
-        given = log_clocks::higher(given, number);
-        let at = log_effects::rows::first(number);
-        if log_effects::table::step(version, columns, at, index as u16 + 1, table) {
-            return Found::Access(index);
+        let taking = log_effects::step(
+            log,
+            index,
+            read,
+            write,
+            places,
+            &mut numbers,
+            &mut given,
+            table,
+        );
+        if ended(taking) {
+            return finding(taking, index);
         }
         index += 1;
     }
     Found::Nothing
 }
 
+// What is found by a table for 8 places.
+fn by_eight(log: &[u8], version: usize) -> Found
+    requires { ⌜ logRefusal (now log) ≡ none ⌝ }
+    ensures { λ r. ⌜ Finds (versionOf version) (now (log .entry)) 8 r ⌝ }
+{
+    let clear = [0u16; 8];
+    let mut table = [clear; 35];
+    pass(log, version, 8, &mut table)
+}
+
 // What is found by a table for 16 places.
-fn by_few(log: &[u8], version: usize) -> Found
+fn by_sixteen(log: &[u8], version: usize) -> Found
     requires { ⌜ logRefusal (now log) ≡ none ⌝ }
     ensures { λ r. ⌜ Finds (versionOf version) (now (log .entry)) 16 r ⌝ }
 {
@@ -59,14 +97,34 @@ fn by_few(log: &[u8], version: usize) -> Found
     pass(log, version, 16, &mut table)
 }
 
+// What is found by a table for 32 places.
+fn by_thirty_two(log: &[u8], version: usize) -> Found
+    requires { ⌜ logRefusal (now log) ≡ none ⌝ }
+    ensures { λ r. ⌜ Finds (versionOf version) (now (log .entry)) 32 r ⌝ }
+{
+    let clear = [0u16; 8];
+    let mut table = [clear; 107];
+    pass(log, version, 32, &mut table)
+}
+
 // What is found by a table for 64 places.
-fn by_some(log: &[u8], version: usize) -> Found
+fn by_sixty_four(log: &[u8], version: usize) -> Found
     requires { ⌜ logRefusal (now log) ≡ none ⌝ }
     ensures { λ r. ⌜ Finds (versionOf version) (now (log .entry)) 64 r ⌝ }
 {
     let clear = [0u16; 8];
     let mut table = [clear; 203];
     pass(log, version, 64, &mut table)
+}
+
+// What is found by a table for 256 places.
+fn by_many(log: &[u8], version: usize) -> Found
+    requires { ⌜ logRefusal (now log) ≡ none ⌝ }
+    ensures { λ r. ⌜ Finds (versionOf version) (now (log .entry)) 256 r ⌝ }
+{
+    let clear = [0u16; 8];
+    let mut table = [clear; 779];
+    pass(log, version, 256, &mut table)
 }
 
 // What is found by a table for all 1,024 places.
@@ -101,21 +159,48 @@ fn full(found: Found) -> bool
     }
 }
 
-// The answer to a log of few records: clearing rows for more places would take longer than judging it.
+// The answer to a log of at most 64 records: rows for as many places as it can be at, since clearing more would take longer than judging it.
 pub fn short(log: &[u8], version: usize) -> Judgement
-    requires { ⌜ logRefusal (now log) ≡ none ⌝ ∗ ⌜ length (now log) / 3 ≤ 16 ⌝ }
+    requires { ⌜ logRefusal (now log) ≡ none ⌝ ∗ ⌜ length (now log) / 3 ≤ 64 ⌝ }
     ensures { λ r. ⌜ Answers (versionOf version) (now (log .entry)) (answered r) ⌝ }
 {
-    let found = by_few(log, version);
+    let count = log.len() / 3;
+    if count <= 8 {
+        let found = by_eight(log, version);
+        return judgement(found);
+    }
+    if count <= 16 {
+        let found = by_sixteen(log, version);
+        return judgement(found);
+    }
+    if count <= 32 {
+        let found = by_thirty_two(log, version);
+        return judgement(found);
+    }
+    let found = by_sixty_four(log, version);
     judgement(found)
 }
 
-// The answer to any log: most are at few places, so that rows for all are cleared only where those for 64 do not suffice.
+// The answer to a log of at most 256 records: most are at few places, so that rows for as many as it can be at are cleared only where those for 64 do not
+// suffice.
+pub fn middle(log: &[u8], version: usize) -> Judgement
+    requires { ⌜ logRefusal (now log) ≡ none ⌝ ∗ ⌜ length (now log) / 3 ≤ 256 ⌝ }
+    ensures { λ r. ⌜ Answers (versionOf version) (now (log .entry)) (answered r) ⌝ }
+{
+    let found = by_sixty_four(log, version);
+    if full(found) {
+        let again = by_many(log, version);
+        return judgement(again);
+    }
+    judgement(found)
+}
+
+// The answer to any log, in the same way by rows for all places.
 pub fn long(log: &[u8], version: usize) -> Judgement
     requires { ⌜ logRefusal (now log) ≡ none ⌝ }
     ensures { λ r. ⌜ Answers (versionOf version) (now (log .entry)) (answered r) ⌝ }
 {
-    let found = by_some(log, version);
+    let found = by_sixty_four(log, version);
     if full(found) {
         let again = by_all(log, version);
         return judgement(again);

@@ -16,7 +16,7 @@ use Rattle.plan_packed.specs.inner.Steps as steps
 use Rattle.plan_packed.proofs.Decoded.{well-formed}
 use Rattle.log_records.specs.Packed.{bytesOf}
 use Rattle.rules.specs.State.{Thread}
-use Rattle.rules.specs.Run.{Run, play}
+use Rattle.rules.specs.Run.{Run, play, log}
 use Rattle.rules.specs.Play.{playRefusal, runOf}
 use Rattle.rules.proofs.StateLaws.{there as thread-at}
 use Rattle.machine.specs.inner.Machine as machine
@@ -25,7 +25,7 @@ use Rattle.machine.specs.inner.Playing.{tableOf}
 use Rattle.machine.proofs.StateMeaning.{threadMeant, get-map}
 use Rattle.machine.proofs.Plays.{start-reached, plays}
 use Rattle.run_state.specs.declared.Setting.{Setting}
-use Rattle.run_engine.specs.inner.Machine.{Played, headAt, playOf, startOf}
+use Rattle.run_engine.specs.inner.Engine.{Played, headAt, playOf, startOf}
 use Rattle.refinement.proofs.Meant.{WordsAndRoots}
 use Rattle.refinement.proofs.States.{settingOf, Related}
 use Rattle.refinement.proofs.Starts.{start-related}
@@ -33,7 +33,7 @@ use Rattle.refinement.proofs.Plays.{plays-defined}
 use Rattle.run_refusals.proofs.Passed.{Passed, passed}
 use Rattle.known_keys.specs.KnownKeys.{HoldsJust}
 use Rattle.known_keys.proofs.EverySet.{every-set-played}
-use Rattle.known_key_words.specs.Standing.{Standing, going, halted, machineOf, areaOf, standing, goOn}
+use Rattle.known_key_words.specs.Standing.{Standing, going, halted, engineOf, areaOf, standing, goOn}
 use Rattle.known_key_words.specs.InWords.{InWords, InWordsAfterEveryPick}
 use Rattle.known_key_words.proofs.Standing.{plays-on, stands-for}
 
@@ -51,7 +51,7 @@ module _ (plan area ws rs : List ℕ) (ok : refusal plan ≡ none) (loaded : Wor
   abbrev final : machine.State
   final = playing.machineRun plan ps .final
 
-  related : Related plan (machineOf here) final
+  related : Related plan (engineOf here) final
   unfolding playing.machineRun
   related = stands-for plan ws rs ok loaded ps 0 small (startOf false rs area) playing.start (start-related plan ws rs ok loaded false area)
       (start-reached plan ok)
@@ -67,19 +67,19 @@ module _ (plan area ws rs : List ℕ) (ok : refusal plan ≡ none) (loaded : Wor
       ∙ get-map (threadMeant (tableOf plan)) (final .threads) t
       ∙ ap (λ (y : Option machine.Thread). Option·map (threadMeant (tableOf plan)) y) h
 
-  threads-counted : machineOf here .tally .counts .threads ≡ length (play (programOf plan) ps .final .threads)
+  threads-counted : engineOf here .tally .counts .threads ≡ length (play (programOf plan) ps .final .threads)
   threads-counted =
       related .kept .threads-count
       ∙ sym (ap (λ (l : List Thread). length l) run-threads ∙ length-map (final .threads) (threadMeant (tableOf plan)))
 
-  set-of : (t : ℕ) → t < machineOf here .tally .counts .threads
-      → HoldsJust (programOf plan .version) (play (programOf plan) ps .log) t (keysOf (headAt (machineOf here .heads) t .keys))
+  set-of : (t : ℕ) → t < engineOf here .tally .counts .threads
+      → HoldsJust (programOf plan .version) (log (play (programOf plan) ps)) t (keysOf (headAt (engineOf here .heads) t .keys))
   set-of t h =
       let x = thread-at (final .threads) t (let e = related .kept .threads-count in omega arith) in
-      along (HoldsJust (programOf plan .version) (play (programOf plan) ps .log) t) (sym (related .each t (x .0) (x .1) .keys))
+      along (HoldsJust (programOf plan .version) (log (play (programOf plan) ps)) t) (sym (related .each t (x .0) (x .1) .keys))
       (every-set-played (programOf plan) (well-formed plan ok) ps t (threadMeant (tableOf plan) (x .0)) (thread-of t (x .0) (x .1)))
 
-  log-there : areaOf here ≡ overwrite (bytesOf (play (programOf plan) ps .log)) area
+  log-there : areaOf here ≡ overwrite (bytesOf (log (play (programOf plan) ps))) area
   log-there =
       area-here ws rs (settingOf plan) (0 + length ps) here
       ∙ ap (λ (r : Played). r .area) (sym (plays-on ws rs (settingOf plan) ps [] (startOf false rs area) 0))

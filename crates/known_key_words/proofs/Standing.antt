@@ -18,17 +18,17 @@ use Rattle.run_outcome.specs.declared.Stop.the-variants as stop
 use Rattle.run_state.specs.declared.Setting.{Setting}
 use Rattle.run_pick.specs.inner.Answer.{PickAnswer, PickAnswer as answer}
 use Rattle.run_pick.specs.inner.Pick.{Picked}
-use Rattle.run_engine.specs.inner.Machine.{Machine, stopped, stayed, after, turnBy, onAnswer, playOf}
+use Rattle.run_engine.specs.inner.Engine.{EngineState, stopped, stayed, after, turnBy, onAnswer, playOf}
 use Rattle.refinement.proofs.Meant.{WordsAndRoots}
 use Rattle.refinement.proofs.States.{settingOf, Related}
 use Rattle.refinement.proofs.Picks.{AnsweredBy, picks}
-use Rattle.known_key_words.specs.Standing.{Standing, halted, machineOf, byAnswer, standing, goOn}
+use Rattle.known_key_words.specs.Standing.{Standing, halted, engineOf, byAnswer, standing, goOn}
 
 -- ---- on the way of the play
 
 module _ (ws rs : List ℕ) (g : Setting) where
   -- the play of some picks and then of others goes on from where the first stand
-  pub plays-on : (ps qs : List ℕ) (m : Machine) (i : ℕ) → playOf ws rs g m (ps ++ qs) i ≡ goOn ws rs g qs (i + length ps) (standing ws rs g m ps i)
+  pub plays-on : (ps qs : List ℕ) (m : EngineState) (i : ℕ) → playOf ws rs g m (ps ++ qs) i ≡ goOn ws rs g qs (i + length ps) (standing ws rs g m ps i)
   unfolding playOf standing
   plays-on [] qs m i = ap (playOf ws rs g m qs) (omega arith)
   plays-on (p ∷ ps) qs m i =
@@ -39,7 +39,7 @@ module _ (ws rs : List ℕ) (g : Setting) where
       one-later i = omega arith
 
       go : (a : PickAnswer) (k : Stack)
-          → ((m : Machine) → playOf ws rs g m (ps ++ qs) (i + 1) ≡ goOn ws rs g qs (i + suc (length ps)) (standing ws rs g m ps (i + 1)))
+          → ((m : EngineState) → playOf ws rs g m (ps ++ qs) (i + 1) ≡ goOn ws rs g qs (i + suc (length ps)) (standing ws rs g m ps (i + 1)))
           → onAnswer a (playOf ws rs g (stayed m k) (ps ++ qs) (i + 1))
           (λ v. playOf ws rs g (after m (p % 8) v k) (ps ++ qs) (i + 1)) (λ e x. stopped g m (p % 8) x e i)
           ≡ goOn ws rs g qs (i + suc (length ps))
@@ -52,22 +52,23 @@ module _ (ws rs : List ℕ) (g : Setting) where
 -- ---- a state of the abstract machine's run
 
 module _ (b ws rs : List ℕ) (ok : refusal b ≡ none) (loaded : WordsAndRoots b ws rs) where
-  abbrev after-picks : Machine → List ℕ → ℕ → Standing
+  abbrev after-picks : EngineState → List ℕ → ℕ → Standing
   after-picks m ps i = standing ws rs (settingOf b) m ps i
 
   abbrev run-from : List ℕ → machine.State → playing.Run
   run-from ps s = playing.run (tableOf b) s ps
 
-  module _ (m : Machine) (s : machine.State) (rel : Related b m s) (reach : Reached (tableOf b) (programOf b) s) (p : ℕ) (small : p < 8) (ps : List ℕ) (i : ℕ)
-      (rest : (m : Machine) (s : machine.State) → Related b m s → Reached (tableOf b) (programOf b) s
-      → Related b (machineOf (after-picks m ps (i + 1))) (run-from ps s .final)) where
+  module _ (m : EngineState) (s : machine.State) (rel : Related b m s) (reach : Reached (tableOf b) (programOf b) s) (p : ℕ) (small : p < 8) (ps : List ℕ)
+      (i : ℕ)
+      (rest : (m : EngineState) (s : machine.State) → Related b m s → Reached (tableOf b) (programOf b) s
+      → Related b (engineOf (after-picks m ps (i + 1))) (run-from ps s .final)) where
     -- where the run on numbers and the abstract machine stand after the pick and the rest, by its answer
     abbrev Stands : PickAnswer → Stack → playing.PickAnswer → Type 0
     Stands z k a =
         Related b
-        (machineOf (byAnswer z (after-picks (stayed m k) ps (i + 1)) (λ v. after-picks (after m p v k) ps (i + 1))
+        (engineOf (byAnswer z (after-picks (stayed m k) ps (i + 1)) (λ v. after-picks (after m p v k) ps (i + 1))
         (λ e x. halted m (stopped (settingOf b) m p x e i))))
-        (playing.resume s (run-from ps) a .final)
+        (playing.resume s p (run-from ps) a .final)
 
     answered-stands : (z : PickAnswer) (k : Stack) → AnsweredBy b m s p z k → Stands z k (playing.step (tableOf b) s p)
     unfolding playing.resume playing.afterPass playing.afterMove playing.stopped
@@ -87,8 +88,8 @@ module _ (b ws rs : List ℕ) (ok : refusal b ≡ none) (loaded : WordsAndRoots 
 
   -- after any picks it stands for where the abstract machine's run stands
   pub stands-for : (ps : List ℕ) (i : ℕ) → ((j : ℕ) → j < length ps → getD ps j 0 ≤ 7)
-      → (m : Machine) (s : machine.State) → Related b m s → Reached (tableOf b) (programOf b) s
-      → Related b (machineOf (after-picks m ps i)) (run-from ps s .final)
+      → (m : EngineState) (s : machine.State) → Related b m s → Reached (tableOf b) (programOf b) s
+      → Related b (engineOf (after-picks m ps i)) (run-from ps s .final)
   unfolding standing playing.run playing.stopped
   stands-for [] i small m s rel reach = rel
   stands-for (p ∷ ps) i small m s rel reach =
@@ -96,8 +97,8 @@ module _ (b ws rs : List ℕ) (ok : refusal b ≡ none) (loaded : WordsAndRoots 
       along
       (λ (q : ℕ).
       Related b
-      (machineOf (byAnswer (turnBy ws rs (settingOf b) m q .answer) (after-picks (stayed m (turnBy ws rs (settingOf b) m q .stack)) ps (i + 1))
+      (engineOf (byAnswer (turnBy ws rs (settingOf b) m q .answer) (after-picks (stayed m (turnBy ws rs (settingOf b) m q .stack)) ps (i + 1))
       (λ v. after-picks (after m q v (turnBy ws rs (settingOf b) m q .stack)) ps (i + 1)) (λ e x. halted m (stopped (settingOf b) m q x e i))))
-      (playing.resume s (run-from ps) (playing.step (tableOf b) s p) .final))
+      (playing.resume s p (run-from ps) (playing.step (tableOf b) s p) .final))
       (sym (mod-eq-of-lt {m = 8} (omega arith)))
       (pick-stands m s rel reach p (omega arith) ps i (stands-for ps (i + 1) (λ j h. small (suc j) (omega arith))))

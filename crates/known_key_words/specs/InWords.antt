@@ -9,21 +9,22 @@ use Rattle.format.specs.Area.{overwrite}
 use Rattle.run_keys.specs.inner.KeySet.{keysOf}
 use Rattle.plan_packed.specs.Trees.{programOf}
 use Rattle.log_records.specs.Packed.{bytesOf}
+use Rattle.rules.specs.Run.{log}
 use Rattle.rules.specs.Play.{runOf}
 use Rattle.run_state.specs.declared.Setting.{Setting}
-use Rattle.run_engine.specs.inner.Machine.{headAt, startOf}
+use Rattle.run_engine.specs.inner.Engine.{headAt, startOf}
 use Rattle.known_keys.specs.KnownKeys.{HoldsJust}
-use Rattle.known_key_words.specs.Standing.{Standing, machineOf, areaOf, standing}
+use Rattle.known_key_words.specs.Standing.{Standing, engineOf, areaOf, standing}
 
 -- of the run of these picks on the plan, and of where the run on numbers stands that was lent the area
 pub record InWords (plan picks area : List ℕ) (s : Standing) : Type 0 where
   -- "a present thread": as many as are counted
-  pub present : machineOf s .tally .counts .threads ≡ length (runOf plan picks .final .threads)
+  pub present : engineOf s .tally .counts .threads ≡ length (runOf plan picks .final .threads)
   -- its "set": the one that the four words of its head stand for
-  pub sets : (t : ℕ) → t < machineOf s .tally .counts .threads
-      → HoldsJust (programOf plan .version) (runOf plan picks .log) t (keysOf (headAt (machineOf s .heads) t .keys))
+  pub sets : (t : ℕ) → t < engineOf s .tally .counts .threads
+      → HoldsJust (programOf plan .version) (log (runOf plan picks)) t (keysOf (headAt (engineOf s .heads) t .keys))
   -- "the log": the area begins with its records
-  pub log : areaOf s ≡ overwrite (bytesOf (runOf plan picks .log)) area
+  pub log : areaOf s ≡ overwrite (bytesOf (log (runOf plan picks))) area
 
 -- "After every pick of every run": ws are the words of the plan's terms, rs its roots, g its setting
 abbrev pub InWordsAfterEveryPick : (plan schedule area ws rs : List ℕ) → Setting → Type 0

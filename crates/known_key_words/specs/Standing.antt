@@ -6,17 +6,17 @@ use Rattle.run_outcome.specs.declared.Stop.{Stop}
 use Rattle.run_state.specs.declared.Setting.{Setting}
 use Rattle.run_state.specs.declared.Entry.{Entry}
 use Rattle.run_pick.specs.inner.Answer.{Move, PickAnswer, PickAnswer as answer}
-use Rattle.run_engine.specs.inner.Machine.{Machine, Played, stopped, stayed, after, turnBy, playOf}
+use Rattle.run_engine.specs.inner.Engine.{EngineState, Played, stopped, stayed, after, turnBy, playOf}
 
 -- the play goes on from a state; or it stopped in one, "unmoved" (document 01), and this is what it comes to
 pub data Standing : Type 0 where
-  going : Machine → Standing
-  halted : Machine → Played → Standing
+  going : EngineState → Standing
+  halted : EngineState → Played → Standing
 
 -- the state: its heads have the threads' key sets
-abbrev pub machineOf : Standing → Machine
-machineOf (going m) = m
-machineOf (halted m r) = m
+abbrev pub engineOf : Standing → EngineState
+engineOf (going m) = m
+engineOf (halted m r) = m
 
 -- the log area
 abbrev pub areaOf : Standing → List ℕ
@@ -30,7 +30,7 @@ byAnswer (answer.Moved v) pass move halt = move v
 byAnswer (answer.Stopped e x) pass move halt = halt e x
 
 -- after these picks from m, where i picks came before them
-unfoldable pub standing : List ℕ → List ℕ → Setting → Machine → List ℕ → ℕ → Standing
+unfoldable pub standing : List ℕ → List ℕ → Setting → EngineState → List ℕ → ℕ → Standing
 standing ws rs g m [] i = going m
 standing ws rs g m (p ∷ ps) i =
     byAnswer (turnBy ws rs g m (p % 8) .answer)

@@ -12,7 +12,7 @@ use Rattle.plan_packed.proofs.WellFormed.{WellFormedProgram}
 use Rattle.plan_packed.proofs.Decoded.{well-formed}
 use Rattle.log_order.proofs.Tests.{or-iff}
 use Rattle.rules.specs.State.{start}
-use Rattle.rules.specs.Run.{Stop, run, play}
+use Rattle.rules.specs.Run.{Stop, run, play, log}
 use Rattle.rules.specs.Play.{runOf}
 use Rattle.rules.proofs.RunKeys.{every-set-of-runs}
 use Rattle.rules.proofs.RunAppend.{andThen, run-append, run-stopped}
@@ -21,7 +21,7 @@ use Rattle.known_keys.proofs.Chained.{would-reach↔}
 
 -- where the run of any picks stands, of any well-formed program
 pub every-set-played : (g : Program) → WellFormedProgram g → (ps : List ℕ) → EverySet (g .version) (play g ps)
-every-set-played g P ps t x h r n k = Iff·trans (every-set-of-runs g P ps t x h k) (or-iff (would-reach↔ (g .version) (play g ps .log) t r n k))
+every-set-played g P ps t x h r n k = Iff·trans (every-set-of-runs g P ps t x h k) (or-iff (would-reach↔ (g .version) (log (play g ps)) t r n k))
 
 -- ---- accepted plans
 

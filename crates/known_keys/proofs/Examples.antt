@@ -10,6 +10,7 @@ use Rattle.plan_packed.specs.Trees.{programOf}
 use Rattle.plan_packed.specs.Check.{refusal}
 use Rattle.log_records.specs.Record.{Record}
 use Rattle.rules.specs.State.{Thread}
+use Rattle.rules.specs.Run.{log}
 use Rattle.rules.specs.Play.{runOf}
 use Rattle.known_keys.specs.Examples.{Example, examples}
 use Rattle.known_keys.proofs.Computed.{keysByLog}
@@ -45,10 +46,10 @@ abbrev byLog : Example → Came
 byLog x = record {
   refused = none;
   last = x .sets;
-  every = map (λ (ps : List ℕ). let r = runOf (x .plan) ps in byLogFrom (programOf (x .plan) .version) (r .log) 0 (r .final .threads)) (moments (x .picks));
+  every = map (λ (ps : List ℕ). let r = runOf (x .plan) ps in byLogFrom (programOf (x .plan) .version) (log r) 0 (r .final .threads)) (moments (x .picks));
 }
 
 -- every plan passes the check, the sets come out as the row says, and at every moment the run's sets are those of its log
 examples-come-out : map byRun examples ≡ map byLog examples
-unfolding examples refusal runOf programOf keysByLog holds countNew
+unfolding examples refusal runOf log programOf keysByLog holds countNew
 examples-come-out = refl

@@ -14,7 +14,7 @@ use Rattle.plan_packed.specs.Trees.{programOf}
 use Rattle.log_records.specs.Record.{new, Record}
 use Rattle.log_order.specs.Chains.{Chain}
 use Rattle.rules.specs.State.{Thread}
-use Rattle.rules.specs.Run.{Run}
+use Rattle.rules.specs.Run.{Run, log}
 use Rattle.rules.specs.Play.{runOf}
 use Rattle.known_keys.specs.WriteKeys.{PlainWrite, keyAt}
 
@@ -41,7 +41,7 @@ HoldsJust v L t K = (r : Record) → NewOf t r → (k : ℕ) → T (holds K k) �
 
 -- where a run stands: each "present thread's set" is that of the run's log
 abbrev pub EverySet : Version → Run → Type 0
-EverySet v r = (t : ℕ) (x : Thread) → getElem? (r .final .threads) t ≡ some x → HoldsJust v (r .log) t (x .keys)
+EverySet v r = (t : ℕ) (x : Thread) → getElem? (r .final .threads) t ≡ some x → HoldsJust v (log r) t (x .keys)
 
 -- "After every pick" of the run of the schedule on the plan: the run of its first n picks, for every n. One that has stopped stands where it stopped.
 abbrev pub AfterEveryPick : (plan schedule : List ℕ) → Type 0

@@ -15,9 +15,9 @@ use Rattle.log_records.proofs.RoundTrip.{count-log, log-element}
 use Rattle.log_records.proofs.Accepted.{RightRecord, accepted}
 use Rattle.log_order.specs.Chains.{At}
 use Rattle.log_order.proofs.Past.{past, past-zero, past-suc, past-length, at→getD}
-use Rattle.log_decoding.specs.inner.Columns.{ReadAt}
-use Rattle.log_decoding.specs.declared.Columns.{Columns}
-use Rattle.log_decoding.proofs.Decoded.{kind-is-kind}
+use Rattle.log_packing.specs.inner.Columns.{ReadAt}
+use Rattle.log_packing.specs.declared.Columns.{Columns}
+use Rattle.log_packing.proofs.Decoded.{kind-is-kind}
 use Rattle.log_clocks.specs.inner.Rows.{Row, clockOf, noRow, rowAt, Raised}
 use Rattle.log_arrows.specs.inner.Newest.{Newest, HeardRows}
 use Rattle.log_arrows.specs.inner.Links.{linkRow, sourceRow, targetRow, Marked}

@@ -7,11 +7,11 @@ ghost use lib.ListN.{length};
 ghost use Rattle.format.specs.Version.{versionOf};
 ghost use Rattle.log_records.specs.Packed.{logOf};
 ghost use Rattle.log_records.specs.Refusals.{logRefusal};
-ghost use Rattle.log_decoding.specs.inner.Columns.{Narrow};
+ghost use Rattle.log_packing.specs.inner.Columns.{Narrow};
 ghost use Rattle.log_arrows.specs.inner.Newest.{HeardRows};
 ghost use Rattle.log_arrows.specs.inner.Links.{linkRow, sourceRow, targetRow, Marked};
 use log_clocks::Row;
-use log_decoding::Columns;
+use log_packing::Columns;
 use log_records::kind;
 
 // The row that a record hears or tells besides its thread's own, or its own, by the three kinds that do.
@@ -79,7 +79,7 @@ pub fn rows(version: usize, log: &[u8], heard: &mut [Row])
     let mut links = [none; 1088];
     let mut index = 0;
     while index < count {
-        let columns = log_decoding::columns_at(log, index);
+        let columns = log_packing::columns_at(log, index);
         let thread = columns.thread;
         let from = source(version, columns);
         let to = target(version, columns);

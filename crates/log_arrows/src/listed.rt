@@ -44,7 +44,7 @@ pub fn all(log: &[u8], rows: &[Row], from: &mut [u16], to: &mut [u16]) -> usize
     let mut held = 0;
     let mut index = 0;
     while index < log.len() / 3 {
-        let columns = log_decoding::columns_at(log, index);
+        let columns = log_packing::columns_at(log, index);
         held = to_one(rows, index, columns.thread, from, to, held);
         index += 1;
     }

@@ -1,4 +1,2 @@
 -- What only inner contracts speak of: no reader of the entries' promises needs it. Assumes nothing.
-pub mod Places
-pub mod Rows
-pub mod Table
+pub mod Step

@@ -21,9 +21,9 @@ use Rattle.log_order.proofs.Ports.{Port, ofThread}
 use Rattle.log_order.proofs.Past.{past, past-suc, past-length, at→getD}
 use Rattle.log_order.proofs.Newest as N
 use Rattle.log_order.proofs.Turned.{chain→, chain←}
-use Rattle.log_decoding.specs.inner.Columns.{ReadAt}
-use Rattle.log_decoding.specs.declared.Columns.{Columns}
-use Rattle.log_decoding.proofs.Decoded.{kind-is-kind}
+use Rattle.log_packing.specs.inner.Columns.{ReadAt}
+use Rattle.log_packing.specs.declared.Columns.{Columns}
+use Rattle.log_packing.proofs.Decoded.{kind-is-kind}
 use Rattle.side_by_side.proofs.Marks.{Wanted, draws, fed, wantedAfter, marksFrom, marksOf, targets, marked}
 use Rattle.log_marking.specs.inner.Rows.{drawnRow, fedRow}
 use Rattle.log_marking.specs.inner.Marked.{MarkedIn, SameBeyond}

@@ -17,7 +17,7 @@ pub fn mark(log: &[u8], failing: usize, last: usize, kept: &mut [bool])
     let mut left = log.len() / 3;
     while 0 < left {
         let index = left - 1;
-        let columns = log_decoding::columns_at(log, index);
+        let columns = log_packing::columns_at(log, index);
         let thread = columns.thread;
         let from = rows::drawn(columns);
         let to = rows::fed(columns);

@@ -2,9 +2,9 @@
 // of object o at 64 + 32 o + f.
 ghost use mathlib.Core.Path.{_≡_};
 ghost use mathlib.Core.Bool.{cond};
-ghost use Rattle.log_decoding.specs.inner.Columns.{Narrow};
+ghost use Rattle.log_packing.specs.inner.Columns.{Narrow};
 ghost use Rattle.log_marking.specs.inner.Rows.{drawnRow, fedRow};
-use log_decoding::Columns;
+use log_packing::Columns;
 use log_records::kind;
 
 // Chooses without a branch, since a log's kinds follow no pattern.

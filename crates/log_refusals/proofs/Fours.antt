@@ -7,7 +7,7 @@ use mathlib.Core.Bool.{false, _||_}
 use mathlib.Core.List.{List}
 use Rattle.format.proofs.RefusalLaws.{neither}
 use Rattle.log_records.specs.Refusals.{wrongRecord}
-use Rattle.log_refusals.specs.inner.Limits.{fourWrong}
+use Rattle.log_refusals.specs.inner.Fours.{fourWrong}
 
 pub four-more : (b : List ℕ) (n : ℕ) → ((k : ℕ) → k < n → wrongRecord b k ≡ false) → fourWrong b n ≡ false → (k : ℕ) → k < n + 4 → wrongRecord b k ≡ false
 four-more b n right e k h = go (ℕ-discrete k n) (ℕ-discrete k (n + 1)) (ℕ-discrete k (n + 2)) (ℕ-discrete k (n + 3))

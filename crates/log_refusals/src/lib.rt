@@ -6,7 +6,8 @@ ghost use lib.ListN.{length};
 ghost use Rattle.format.specs.inner.Lowest.{Lowest};
 ghost use Rattle.log_records.specs.Packed.{recordCount};
 ghost use Rattle.log_records.specs.Refusals.{wrongLogLength, wrongRecord};
-ghost use Rattle.log_refusals.specs.inner.Limits.{leastBits, zeroBits, fourWrong, RightTo};
+ghost use Rattle.log_limits.specs.inner.Limits.{leastBits, zeroBits};
+ghost use Rattle.log_refusals.specs.inner.Fours.{fourWrong, RightTo};
 ghost use mathlib.Core.Bool.{false};
 
 // Refusal 11: the length is no multiple of 3, or over 12,288.
@@ -16,75 +17,13 @@ pub fn wrong_length(log: &[u8]) -> bool
     (log.len() % 3 != 0) | (12288 < log.len())
 }
 
-// For each kind, the least number that it allows in its record's last 12 bits, which are field, value and spare: an access has a field, at 128 and above.
-// 4096, above them all, allows none: so for what is no kind, and for the kinds 10 and 11 before the last record.
-const LEAST_EARLY: [usize; 16] = [
-    4096,
-    0,
-    128,
-    128,
-    128,
-    128,
-    0,
-    0,
-    0,
-    0,
-    4096,
-    4096,
-    4096,
-    4096,
-    4096,
-    4096,
-];
-
-// The same in the last record.
-const LEAST_LAST: [usize; 16] = [
-    4096,
-    0,
-    128,
-    128,
-    128,
-    128,
-    0,
-    0,
-    0,
-    0,
-    128,
-    128,
-    4096,
-    4096,
-    4096,
-    4096,
-];
-
-// For each kind, those of the 12 bits that must be 0: a column without a use, what is above a thread in the field of fork and join, and the
-// spare bits; of what is no kind, all.
-const ZERO: [usize; 16] = [
-    4095,
-    4095,
-    3,
-    3,
-    3,
-    3,
-    4095,
-    4095,
-    3199,
-    3075,
-    127,
-    3,
-    4095,
-    4095,
-    4095,
-    4095,
-];
-
 // Refusal 12 at the record of an index, by the tables for its place.
-fn wrong_record<'a>(log: &[u8], index: usize, least: &'a [usize; 16], zero: &'a [usize; 16]) -> bool
+fn wrong_record<'a>(log: &[u8], index: usize, least: &'a [u16; 16], zero: &'a [u16; 16]) -> bool
     requires { ⌜ index < length (now log) / 3 ⌝ ∗ ⌜ now least ≡ leastBits (eqb (index + 1) (length (now log) / 3)) ⌝ ∗ ⌜ now zero ≡ zeroBits ⌝ }
     ensures { λ r. ⌜ r ≡ wrongRecord (now (log .entry)) index ⌝ }
 {
-    let columns = log_decoding::columns_at(log, index);
-    let bits = (columns.field * 32 + columns.value) * 4 + columns.spare;
+    let columns = log_packing::columns_at(log, index);
+    let bits = ((columns.field * 32 + columns.value) * 4 + columns.spare) as u16;
     let kind = columns.kind;
     let low = bits < least[kind];
     let set = bits & zero[kind];
@@ -92,7 +31,7 @@ fn wrong_record<'a>(log: &[u8], index: usize, least: &'a [usize; 16], zero: &'a 
 }
 
 // Refusal 12 at one of four records in a row, none of them the last.
-fn four_wrong<'a>(log: &[u8], index: usize, least: &'a [usize; 16], zero: &'a [usize; 16]) -> bool
+fn four_wrong<'a>(log: &[u8], index: usize, least: &'a [u16; 16], zero: &'a [u16; 16]) -> bool
     requires { ⌜ index + 4 < length (now log) / 3 ⌝ ∗ ⌜ now least ≡ leastBits false ⌝ ∗ ⌜ now zero ≡ zeroBits ⌝ }
     ensures { λ r. ⌜ r ≡ fourWrong (now (log .entry)) index ⌝ }
 {
@@ -104,7 +43,7 @@ fn four_wrong<'a>(log: &[u8], index: usize, least: &'a [usize; 16], zero: &'a [u
 }
 
 // A count of records from the first on that are all right: four are tested before a branch.
-fn right_fours<'a>(log: &[u8], least: &'a [usize; 16], zero: &'a [usize; 16]) -> usize
+fn right_fours<'a>(log: &[u8], least: &'a [u16; 16], zero: &'a [u16; 16]) -> usize
     requires { ⌜ now least ≡ leastBits false ⌝ ∗ ⌜ now zero ≡ zeroBits ⌝ }
     ensures { λ r. ⌜ RightTo (now (log .entry)) r ⌝ }
 {
@@ -124,9 +63,9 @@ pub fn lowest_wrong(log: &[u8]) -> usize
     ensures { λ r. ⌜ Lowest (wrongRecord (now (log .entry))) (recordCount (now (log .entry))) r ⌝ }
 {
     let count = log.len() / 3;
-    let early = LEAST_EARLY;
-    let last = LEAST_LAST;
-    let zero = ZERO;
+    let early = log_limits::least_early();
+    let last = log_limits::least_last();
+    let zero = log_limits::zero_bits();
     let mut index = right_fours(log, &early, &zero);
     while index + 1 < count {
         if wrong_record(log, index, &early, &zero) {

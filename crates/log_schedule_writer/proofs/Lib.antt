@@ -1,5 +1,4 @@
-pub mod KindTests
-pub mod LastWrites
+pub mod ForkTests
 pub mod Counts
 pub mod Picks
 pub mod Whole

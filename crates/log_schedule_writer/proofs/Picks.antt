@@ -19,11 +19,11 @@ use Rattle.log_records.specs.Record.{Record}
 use Rattle.log_records.specs.Packed.{recordAt, recordCount, logOf}
 use Rattle.log_records.proofs.RoundTrip.{count-log, log-element}
 use Rattle.log_order.proofs.Past.{at→getD}
-use Rattle.log_decoding.specs.inner.Columns.{ReadAt}
-use Rattle.log_decoding.specs.declared.Columns.{Columns}
+use Rattle.log_packing.specs.inner.Columns.{ReadAt}
+use Rattle.log_packing.specs.declared.Columns.{Columns}
 use Rattle.side_by_side.specs.Schedule.{Numbers, isFork, firstNumbers, numbered, numbersAfter, nextAfter, orZero, picksFrom, picksOf}
 use Rattle.log_schedule_writer.specs.inner.Kept.{flagged, picksIn, Small}
-use Rattle.log_schedule_writer.proofs.KindTests.{fork-here}
+use Rattle.log_schedule_writer.proofs.ForkTests.{fork-here}
 
 pub record Writing (b : List ℕ) (kept : List Bool) (before numbers : List ℕ) (next at index : ℕ) (area : List ℕ) : Type 0 where
   pub within : index ≤ length b / 3

@@ -21,8 +21,9 @@ use Rattle.answers.specs.Answer.{Answer}
 use Rattle.side_by_side.specs.Schedule.{picksOf}
 use Rattle.side_by_side.specs.SideBySide.{WrittenFrom}
 use Rattle.side_by_side.proofs.Written.{written-by}
+use Rattle.log_last_write.specs.inner.LastWrite.{IsLast, HasLast}
 use Rattle.log_marking.specs.inner.Marked.{MarkedIn, SameBeyond}
-use Rattle.log_schedule_writer.specs.inner.Kept.{IsLast, HasLast, flagged, countKept, picksIn, Small}
+use Rattle.log_schedule_writer.specs.inner.Kept.{flagged, countKept, picksIn, Small}
 use Rattle.log_schedule_writer.specs.inner.WritesFrom.{RacedIn, WritesFrom, too-short, wrote}
 use Rattle.log_schedule_writer.proofs.Counts.{picks-counted}
 

@@ -1,35 +1,14 @@
-// What is written from the moves of a run that raced (document 02, E10): the last write of the field that failed, and the picks of the moves that are kept,
-// renumbered, one pass forward.
+// What is written from the moves of a run that raced (document 02, E10): the picks of the moves that are kept, renumbered, one pass forward.
 ghost use mathlib.Core.Path.{_≡_};
 ghost use Prim.Native.Nat.{_<_, _≤_, _/_};
 ghost use lib.ListN.{length};
 ghost use Rattle.format.specs.Area.{overwrite};
 ghost use Rattle.log_records.specs.Packed.{logOf};
 ghost use Rattle.answers.specs.Answer.{answered};
-ghost use Rattle.log_schedule_writer.specs.inner.Kept.{flagged, countKept, HasLast, IsLast, Small, picksIn};
+ghost use Rattle.log_schedule_writer.specs.inner.Kept.{flagged, countKept, Small, picksIn};
 ghost use Rattle.log_schedule_writer.specs.inner.WritesFrom.{RacedIn, WritesFrom};
 use answers::Answered;
 use log_records::kind;
-
-// The index of the last write of the field that the record at `failing` accesses, before that record.
-pub fn last_write(log: &[u8], failing: usize) -> usize
-    requires { ⌜ HasLast (now log) failing ⌝ }
-    ensures { λ r. ⌜ IsLast (now (log .entry)) failing r ⌝ }
-{
-    let access = log_decoding::columns_at(log, failing);
-    let mut index = failing;
-    while 0 < index {
-        index -= 1;
-        let columns = log_decoding::columns_at(log, index);
-        if (columns.kind == kind::WRITE)
-            & (columns.object == access.object)
-            & (columns.field == access.field)
-        {
-            return index;
-        }
-    }
-    index
-}
 
 // How many of the first moves are kept.
 pub fn count(kept: &[bool], moves: usize) -> usize
@@ -60,7 +39,7 @@ pub fn put_picks(log: &[u8], kept: &[bool], area: &mut [u8])
     let mut index = 0;
     while index < log.len() / 3 {
         if kept[index] {
-            let columns = log_decoding::columns_at(log, index);
+            let columns = log_packing::columns_at(log, index);
             let thread = columns.thread;
             area[at] = (numbers[thread] % 8) as u8;
             at += 1;
@@ -81,7 +60,7 @@ pub fn write(log: &[u8], area: &mut [u8]) -> Answered
 {
     let moves = log.len() / 3;
     let failing = moves - 1;
-    let last = last_write(log, failing);
+    let last = log_last_write::last_write(log, failing);
     let mut kept = [false; 4096];
     log_marking::mark(log, failing, last, &mut kept);
     let length = count(&kept, moves);

@@ -1,4 +1,4 @@
--- The machine plays every accepted plan as it is defined: the same stop, picks, rules, log, final state and outcome. Assumes nothing.
+-- The machine plays every accepted plan as it is defined: the same stop, picks, moves, log, final state and outcome. Assumes nothing.
 use Prim.Native.Nat.{ℕ}
 use native.Mathlib.Omega.{arith}
 use mathlib.Core.Path.{_≡_, refl, ap, _∙_, subst as along}
@@ -11,7 +11,7 @@ use Rattle.plan_packed.proofs.Decoded.{well-formed}
 use Rattle.rules.specs.Context.{literals, plug, redexExpression}
 use Rattle.rules.specs.State.{State, start}
 use Rattle.rules.specs.Room.{PickAnswerOf}
-use Rattle.rules.specs.Run.{Run, run, play, statusesFrom, outcomeOf}
+use Rattle.rules.specs.Run.{Run, run, play, statusesFrom, outcomeOf, log}
 use Rattle.rules.proofs.Decompose.{whole}
 use Rattle.rules.proofs.Executed.{Reachable, reachable-start}
 use Rattle.machine.specs.inner.Machine as machine
@@ -59,8 +59,9 @@ module _ (b : List ℕ) (h : refusal b ≡ none) where
       ap (λ (r : Run). statusesFrom (programOf b) (r .final) p n) (plays ps)
       ∙ statuses-of (tableOf b) (programOf b) (well-formed b h) (tabulates b (accepted b h)) (playing.machineRun b ps .final) (plays-reached ps) p n
 
-  pub plays-log : (ps : List ℕ) → play (programOf b) ps .log ≡ playing.machineRun b ps .log
-  plays-log ps = ap (λ (r : Run). r .log) (plays ps)
+  pub plays-log : (ps : List ℕ) → log (play (programOf b) ps) ≡ log (playing.machineRun b ps)
+  unfolding log
+  plays-log ps = ap log (plays ps)
 
   -- so the outcome is read off the machine's run
   pub plays-outcome : (ps : List ℕ) → outcomeOf (programOf b) (play (programOf b) ps) ≡ playing.outcomeOf (tableOf b) (playing.machineRun b ps)

@@ -117,7 +117,7 @@ module _ (table : Table) where
       ∙ admit-of m (noRoomFor (m .rule) s p (m .state))
 
   abbrev pub runMeant : playing.Run → Run
-  runMeant r = record { stop = r .stop; picks = r .picks; instances = r .instances; log = r .log; final = stateOf table (r .final) }
+  runMeant r = record { stop = r .stop; picks = r .picks; moves = r .moves; lacked = r .lacked; final = stateOf table (r .final) }
 
   -- what holds of every state that a run of the machine comes to: its frames are well sorted, and it stands for a state that a defined run comes to, within
   -- the room
@@ -164,23 +164,23 @@ module _ (table : Table) where
     resume-of : (s : machine.State) (p : ℕ) (k : State → Run) (k′ : machine.State → playing.Run) (a : playing.PickAnswer) → Reached g s → playing.step table
         s p ≡ a
         → ((z : machine.State) → Reached g z → k (stateOf table z) ≡ runMeant (k′ z))
-        → resume (stateOf table s) k (answerOf a) ≡ runMeant (resume s k′ a)
+        → resume (stateOf table s) p k (answerOf a) ≡ runMeant (resume s p k′ a)
     unfolding resume
     resume-of s p k k′ PickAnswerOf.passed r e q = ap afterPass (q s r)
     resume-of s p k k′ (PickAnswerOf.race x) r e q = refl
     resume-of s p k k′ (PickAnswerOf.noRoom x) r e q = refl
-    resume-of s p k k′ (PickAnswerOf.moved m) r e q = ap (afterMove (moveOf m)) (q (m .state) (step-reached s p m r e))
+    resume-of s p k k′ (PickAnswerOf.moved m) r e q = ap (afterMove p (moveOf m)) (q (m .state) (step-reached s p m r e))
 
     -- the machine's run stands for the defined run
     pub run-of : (ps : List ℕ) (s : machine.State) → Reached g s → run g (stateOf table s) ps ≡ runMeant (playing.run table s ps)
     unfolding run playing.run
     run-of [] s r = refl
     run-of (p ∷ ps) s r =
-        ap (resume (stateOf table s) (λ z. run g z ps)) (step-of s p r)
+        ap (resume (stateOf table s) p (λ z. run g z ps)) (step-of s p r)
         ∙ resume-of s p (λ z. run g z ps) (λ z. playing.run table z ps) (playing.step table s p) r refl (λ z u. run-of ps z u)
 
     resume-reached : (s : machine.State) (p : ℕ) (k : machine.State → playing.Run) (a : playing.PickAnswer) → Reached g s → playing.step table s p ≡ a
-        → ((z : machine.State) → Reached g z → Reached g (k z .final)) → Reached g (resume s k a .final)
+        → ((z : machine.State) → Reached g z → Reached g (k z .final)) → Reached g (resume s p k a .final)
     unfolding resume
     resume-reached s p k PickAnswerOf.passed r e q = q s r
     resume-reached s p k (PickAnswerOf.race x) r e q = r

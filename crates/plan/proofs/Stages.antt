@@ -1,13 +1,14 @@
 -- The answer to a plan, stage by stage: checks 1 to 3, check 4, checks 5 and 6, check 7. Assumes nothing.
-use Prim.Native.Nat.{ℕ}
+use Prim.Native.Nat.{ℕ, _<_}
 use mathlib.Core.Path.{_≡_, sym, ap, _∙_, subst}
+use mathlib.Core.Bool.{false}
 use mathlib.Core.List.{List}
 use mathlib.Core.Option.{some, none}
 use lib.ListN.{take, drop}
 use Rattle.format.specs.Refusal.{orElse, lowest, refuse, firstRefusal}
-use Rattle.format.proofs.RefusalLaws.{refusal-append}
+use Rattle.format.proofs.RefusalLaws.{refusal-append, head-pass, tail-pass, none-is-pass}
 use Rattle.plan_packed.specs.Format.{terms}
-use Rattle.plan_packed.specs.Refusals.{wrongTerm}
+use Rattle.plan_packed.specs.Refusals.{wrongTerm, notNamedOnce}
 use Rattle.plan_packed.specs.Check.{checks, refusal}
 use Rattle.plan_packed.specs.inner.Steps.{Loaded}
 use Rattle.plan_refusals.specs.Answer.{answered}
@@ -49,7 +50,12 @@ module _ (b : List ℕ) where
       → answered r ≡ firstRefusal (drop 4 (checks b))
   by-names r k i e q = refused-first _ _ r k i e q ∙ sym names-first
 
-  -- neither does
+  -- neither does: every term is named once
+  pub named-once : (h : Checked) → answered h ≡ firstRefusal (take 2 (drop 4 (checks b))) → h ≡ Passed → (t : ℕ) → t < terms b → notNamedOnce b t ≡ false
+  unfolding checks
+  named-once h e q t l = head-pass (tail-pass (none-is-pass (take 2 (drop 4 (checks b))) .0 (passed-none _ h e q))) .right t l
+
+  -- check 7 is left
   pub by-slots : (h r : Checked) → answered h ≡ firstRefusal (take 2 (drop 4 (checks b))) → h ≡ Passed → answered r ≡ firstRefusal (drop 6 (checks b))
       → answered r ≡ firstRefusal (drop 4 (checks b))
   by-slots h r e q p = passed-first _ _ h r e q p ∙ sym names-first

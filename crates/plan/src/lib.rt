@@ -14,6 +14,7 @@ ghost use Rattle.plan_packed.specs.Format.{terms};
 ghost use Rattle.plan_packed.specs.inner.Rows.{layoutRows};
 ghost use Rattle.plan_packed.specs.inner.Steps.{Right, Loaded, TermsNoted};
 ghost use Rattle.plan_refusals.specs.Answer.{answered};
+ghost use Rattle.plan_scopes.specs.inner.Scopes.{TermsScoped};
 
 // Refusals 1 to 3: the length, the header and the mask, the procedures.
 fn check_header(plan: &[u8]) -> Checked
@@ -65,7 +66,7 @@ fn check_names(
     Checked::Passed
 }
 
-// Refusals 5 to 7, of such a plan.
+// Refusals 5 to 7, of such a plan. Where the scopes do not show that it passes check 7, the trees are walked.
 fn check_trees(
     rows: &Rows,
     plan: &[u8],
@@ -73,17 +74,22 @@ fn check_trees(
     count: usize,
     words: &[usize; 1024],
     notes: &[u8; 1024],
+    scopes: &[u8; 1024],
 ) -> Checked
     requires { ⌜ Right (now plan) procedures count ⌝ }
     requires { ⌜ Loaded (now plan) count (now words) ⌝ }
     requires { ⌜ now rows ≡ layoutRows ⌝ }
     requires { ⌜ TermsNoted (now plan) count (now notes) ⌝ }
+    requires { ⌜ TermsScoped (now plan) count (now scopes) ⌝ }
     ensures { λ r. ⌜ answered r ≡ firstRefusal (drop 4 (checks (now (plan .entry)))) ⌝ }
 {
     let checked = check_names(rows, plan, procedures, count, words, notes);
     let Checked::Passed = checked else {
         return checked;
     };
+    if plan_scopes::all_bound(plan, procedures, count, words, scopes) {
+        return Checked::Passed;
+    }
     let open = plan_bound_slots::lowest_open(plan, procedures, count, words);
     if open < procedures {
         return refused(7, open);
@@ -107,11 +113,21 @@ pub fn load(plan: &[u8], words: &mut [usize; 1024]) -> Checked
     let rows = rows::layouts();
     let mut notes = [0u8; 1024];
     notes::name_roots(plan, procedures, count, &mut notes);
-    let term = table::load(&rows, plan, procedures, count, words, &mut notes);
+    let mut scopes = [0u8; 1024];
+    plan_scopes::hand_to_roots(plan, procedures, count, &mut scopes);
+    let term = table::load(
+        &rows,
+        plan,
+        procedures,
+        count,
+        words,
+        &mut notes,
+        &mut scopes,
+    );
     if term < count {
         return refused(4, term);
     }
-    check_trees(&rows, plan, procedures, count, words, &notes)
+    check_trees(&rows, plan, procedures, count, words, &notes, &scopes)
 }
 
 // The entry `check`.

@@ -2,7 +2,7 @@
 use mathlib.Core.Path.{_≡_, refl, ap, sym, _∙_}
 use mathlib.Core.Bool.{Bool}
 use mathlib.Core.List.{List, [], _∷_}
-use Prim.Native.Nat.{ℕ, _-_}
+use Prim.Native.Nat.{ℕ, _-_, _*_}
 use Rattle.format.proofs.Ranges.{NoneOf}
 use Rattle.plan_packed.specs.Format.{layout, table}
 use Rattle.plan_packed.specs.inner.Operands as word
@@ -14,11 +14,11 @@ use Rattle.plan_packed.proofs.Tags.{except}
 use Rattle.plan_packed.proofs.Walk.{cond-is, list-is, row-below}
 use Rattle.plan_packed.proofs.WalkSteps.{mod-below}
 use Rattle.plan_cost_walk.specs.inner.Walked.{more, walked, walkedᶜ, walkedᵃ}
-use Rattle.plan_cost_walk.proofs.Expressions.{wordOf, Tagged, firstOf, secondOf, Call, child}
+use Rattle.plan_cost_walk.proofs.Expressions.{wordOf, Tagged, firstOf, secondOf, Call, CallTwo, child, children}
 
 -- ---- the calls on the children of term t
 
-module _ (words : List ℕ) (o : Ordered words) (t : ℕ) {span : ℕ} (h : 1024 - t ≡ span) where
+module _ (words : List ℕ) (o : Ordered words) (t : ℕ) {span : ℕ} (h : 2 * (1024 - t) ≡ span) where
   pub not-call : Tagged words t 13 → Call words span (firstOf words t)
   unfolding nodeOf inWord layout table nodes
   not-call e = child words o t h _ (row-below words o t 13 e) (mod-below _)
@@ -31,13 +31,9 @@ module _ (words : List ℕ) (o : Ordered words) (t : ℕ) {span : ℕ} (h : 1024
   unfolding nodeOf inWord layout table nodes
   and-second e = child words o t h _ (row-below words o t 14 e .1) (mod-below _)
 
-  pub equal-first : Tagged words t 15 → Call words span (firstOf words t)
+  pub equal-call : Tagged words t 15 → CallTwo words span (firstOf words t) (secondOf words t)
   unfolding nodeOf inWord layout table nodes
-  equal-first e = child words o t h _ (row-below words o t 15 e .0) (mod-below _)
-
-  pub equal-second : Tagged words t 15 → Call words span (secondOf words t)
-  unfolding nodeOf inWord layout table nodes
-  equal-second e = child words o t h _ (row-below words o t 15 e .1) (mod-below _)
+  equal-call e = let k = row-below words o t 15 e in children words o t h _ _ (k .0) (k .1) (mod-below _) (mod-below _)
 
   pub list-first : Tagged words t 16 → Call words span (firstOf words t)
   unfolding nodeOf inWord layout table nodes
@@ -70,9 +66,9 @@ module _ (words : List ℕ) (o : Ordered words) (t : ℕ) (b : Bool) (T : ℕ �
   unfolding nodeOf inWord layout table nodes conditionOf walked
   and-walked e p s q = q ∙ ap (λ (x : ℕ). thenᶜ x (secondOf words t)) (s ∙ ap (λ (x : ℕ). thenᶜ x (firstOf words t)) p) ∙ isᶜ 14 e
 
-  pub equal-walked : {m l r : ℕ} → Tagged words t 15 → m ≡ more b n 1 → l ≡ then m (firstOf words t) → r ≡ then l (secondOf words t) → r ≡ thenᶜ n t
+  pub equal-walked : {m r : ℕ} → Tagged words t 15 → m ≡ more b n 1 → r ≡ then (then m (firstOf words t)) (secondOf words t) → r ≡ thenᶜ n t
   unfolding nodeOf inWord layout table nodes conditionOf walked
-  equal-walked e p s q = q ∙ ap (λ (x : ℕ). then x (secondOf words t)) (s ∙ ap (λ (x : ℕ). then x (firstOf words t)) p) ∙ isᶜ 15 e
+  equal-walked e p q = q ∙ ap (λ (x : ℕ). then (then x (firstOf words t)) (secondOf words t)) p ∙ isᶜ 15 e
 
   -- true, or a term of another sort
   pub rest-walkedᶜ : NoneOf (word.tagOf (wordOf words t)) (15 ∷ 14 ∷ 13 ∷ []) → n ≡ thenᶜ n t

@@ -1,8 +1,8 @@
 -- What the walk comes to at an expression, by its tag, and its calls: each walks a later term. Assumes nothing.
-use mathlib.Core.Path.{_≡_, refl, ap, ap₂, sym, _∙_}
+use mathlib.Core.Path.{_≡_, refl, ap, sym, _∙_}
 use mathlib.Core.Bool.{Bool}
 use mathlib.Core.List.{List, [], _∷_}
-use Prim.Native.Nat.{ℕ, _-_, _<_}
+use Prim.Native.Nat.{ℕ, _+_, _-_, _*_, _<_, min}
 use native.Mathlib.Omega.{arith}
 use lib.ListN.{getD}
 use Rattle.format.proofs.Ranges.{NoneOf}
@@ -53,13 +53,20 @@ procedureOf words t = word.procedureBits (wordOf words t)
 
 -- what a call on term x must show, where the span of terms is below this
 abbrev pub Call : List ℕ → ℕ → ℕ → Type 0
-Call words span x = (1024 - x < span) × (Ordered words × (x < 1024))
+Call words span x = (2 * (1024 - x) < span) × (Ordered words × (x < 1024))
+
+-- what a call on two terms must show
+abbrev pub CallTwo : List ℕ → ℕ → ℕ → ℕ → Type 0
+CallTwo words span x y = (2 * (1024 - min x y) + 1 < span) × (Ordered words × ((x < 1024) × (y < 1024)))
 
 -- ---- the calls on the children of term t
 
-module _ (words : List ℕ) (o : Ordered words) (t : ℕ) {span : ℕ} (h : 1024 - t ≡ span) where
+module _ (words : List ℕ) (o : Ordered words) (t : ℕ) {span : ℕ} (h : 2 * (1024 - t) ≡ span) where
   pub child : (x : ℕ) → t < x → x < 1024 → Call words span x
   child x k b = (omega arith, (o, b))
+
+  pub children : (x y : ℕ) → t < x → t < y → x < 1024 → y < 1024 → CallTwo words span x y
+  children x y k l b d = (omega arith, (o, (b, d)))
 
   pub read-call : Tagged words t 3 → Call words span (firstOf words t)
   unfolding nodeOf inWord layout table nodes
@@ -85,33 +92,28 @@ module _ (words : List ℕ) (o : Ordered words) (t : ℕ) {span : ℕ} (h : 1024
   unfolding nodeOf inWord layout table nodes
   notify-all-call e = child _ (row-below words o t 20 e) (mod-below _)
 
-  pub write-first : Tagged words t 4 → Call words span (firstOf words t)
+  pub write-call : Tagged words t 4 → CallTwo words span (firstOf words t) (writtenOf words t)
   unfolding nodeOf inWord layout table nodes
-  write-first e = child _ (row-below words o t 4 e .0) (mod-below _)
+  write-call e = let k = row-below words o t 4 e in children _ _ (k .0) (k .1) (mod-below _) (mod-below _)
 
-  pub write-second : Tagged words t 4 → Call words span (writtenOf words t)
+  pub let-call : Tagged words t 5 → CallTwo words span (valueOf words t) (bodyOf words t)
   unfolding nodeOf inWord layout table nodes
-  write-second e = child _ (row-below words o t 4 e .1) (mod-below _)
+  let-call e = let k = row-below words o t 5 e in children _ _ (k .0) (k .1) (mod-below _) (mod-below _)
 
-  pub let-first : Tagged words t 5 → Call words span (valueOf words t)
+  pub synch-call : Tagged words t 11 → CallTwo words span (firstOf words t) (secondOf words t)
   unfolding nodeOf inWord layout table nodes
-  let-first e = child _ (row-below words o t 5 e .0) (mod-below _)
+  synch-call e = let k = row-below words o t 11 e in children _ _ (k .0) (k .1) (mod-below _) (mod-below _)
 
-  pub let-second : Tagged words t 5 → Call words span (bodyOf words t)
-  unfolding nodeOf inWord layout table nodes
-  let-second e = child _ (row-below words o t 5 e .1) (mod-below _)
+  -- a condition and two branches
+  three : (x y z : ℕ) → t < x → t < y → t < z → x < 1024 → y < 1024 → z < 1024
+      → (2 * (1024 - min x (min y z)) + 1 < span) × (Ordered words × ((x < 1024) × (y < 1024) × (z < 1024)))
+  three x y z k l m a b d = (omega arith, (o, (a, b, d)))
 
-  pub if-test : Tagged words t 6 → Call words span (firstOf words t)
+  pub if-call : Tagged words t 6
+      → (2 * (1024 - min (firstOf words t) (min (secondOf words t) (thirdOf words t))) + 1 < span)
+      × (Ordered words × ((firstOf words t < 1024) × (secondOf words t < 1024) × (thirdOf words t < 1024)))
   unfolding nodeOf inWord layout table nodes
-  if-test e = child _ (row-below words o t 6 e .0) (mod-below _)
-
-  pub if-yes : Tagged words t 6 → Call words span (secondOf words t)
-  unfolding nodeOf inWord layout table nodes
-  if-yes e = child _ (row-below words o t 6 e .1) (mod-below _)
-
-  pub if-no : Tagged words t 6 → Call words span (thirdOf words t)
-  unfolding nodeOf inWord layout table nodes
-  if-no e = child _ (row-below words o t 6 e .2) (mod-below _)
+  if-call e = let k = row-below words o t 6 e in three _ _ _ (k .0) (k .1) (k .2) (mod-below _) (mod-below _) (mod-below _)
 
   pub while-test : Tagged words t 7 → Call words span (firstOf words t)
   unfolding nodeOf inWord layout table nodes
@@ -121,17 +123,13 @@ module _ (words : List ℕ) (o : Ordered words) (t : ℕ) {span : ℕ} (h : 1024
   unfolding nodeOf inWord layout table nodes
   while-body e = child _ (row-below words o t 7 e .1) (mod-below _)
 
-  pub call-list : Tagged words t 8 → Call words span (argumentsOf words t)
-  unfolding nodeOf inWord layout table nodes
-  call-list e = child _ (row-below words o t 8 e) (mod-below _)
+  -- a call's list
+  list : (x : ℕ) → t < x → x < 1024 → (2 * (1024 - x) + 1 < span) × Ordered words
+  list x k b = (omega arith, o)
 
-  pub synch-first : Tagged words t 11 → Call words span (firstOf words t)
+  pub call-call : Tagged words t 8 → (2 * (1024 - argumentsOf words t) + 1 < span) × Ordered words
   unfolding nodeOf inWord layout table nodes
-  synch-first e = child _ (row-below words o t 11 e .0) (mod-below _)
-
-  pub synch-second : Tagged words t 11 → Call words span (secondOf words t)
-  unfolding nodeOf inWord layout table nodes
-  synch-second e = child _ (row-below words o t 11 e .1) (mod-below _)
+  call-call e = list _ (row-below words o t 8 e) (mod-below _)
 
 -- ---- what the walk comes to
 
@@ -182,34 +180,33 @@ module _ (words : List ℕ) (o : Ordered words) (t : ℕ) (b : Bool) (T : ℕ �
   unfolding nodeOf inWord layout table nodes expressionOf walked
   wait-walked e p s q = q ∙ ap (λ (x : ℕ). then x (firstOf words t)) (s ∙ ap (λ (x : ℕ). more b x 1) p) ∙ is 18 e
 
-  pub write-walked : {m l r : ℕ} → Tagged words t 4 → m ≡ more b n 1 → l ≡ then m (firstOf words t) → r ≡ then l (writtenOf words t) → r ≡ here
+  pub write-walked : {m r : ℕ} → Tagged words t 4 → m ≡ more b n 1 → r ≡ then (then m (firstOf words t)) (writtenOf words t) → r ≡ here
   unfolding nodeOf inWord layout table nodes expressionOf walked
-  write-walked e p s q = q ∙ ap (λ (x : ℕ). then x (writtenOf words t)) (s ∙ ap (λ (x : ℕ). then x (firstOf words t)) p) ∙ is 4 e
+  write-walked e p q = q ∙ ap (λ (x : ℕ). then (then x (firstOf words t)) (writtenOf words t)) p ∙ is 4 e
 
-  pub let-walked : {m l r : ℕ} → Tagged words t 5 → m ≡ more b n 1 → l ≡ then m (valueOf words t) → r ≡ then l (bodyOf words t) → r ≡ here
+  pub let-walked : {m r : ℕ} → Tagged words t 5 → m ≡ more b n 1 → r ≡ then (then m (valueOf words t)) (bodyOf words t) → r ≡ here
   unfolding nodeOf inWord layout table nodes expressionOf walked
-  let-walked e p s q = q ∙ ap (λ (x : ℕ). then x (bodyOf words t)) (s ∙ ap (λ (x : ℕ). then x (valueOf words t)) p) ∙ is 5 e
+  let-walked e p q = q ∙ ap (λ (x : ℕ). then (then x (valueOf words t)) (bodyOf words t)) p ∙ is 5 e
 
-  pub if-walked : {m l y z r : ℕ} → Tagged words t 6 → m ≡ more b n 1 → l ≡ thenᶜ m (firstOf words t) → y ≡ then l (secondOf words t)
-      → z ≡ then l (thirdOf words t) → r ≡ branches b y z → r ≡ here
+  pub if-walked : {m r : ℕ} → Tagged words t 6 → m ≡ more b n 1
+      → r ≡ branches b (then (thenᶜ m (firstOf words t)) (secondOf words t)) (then (thenᶜ m (firstOf words t)) (thirdOf words t)) → r ≡ here
   unfolding nodeOf inWord layout table nodes expressionOf walked
-  if-walked e p s u v q =
-      let f = s ∙ ap (λ (x : ℕ). thenᶜ x (firstOf words t)) p in
-      q ∙ ap₂ (branches b) (u ∙ ap (λ (x : ℕ). then x (secondOf words t)) f) (v ∙ ap (λ (x : ℕ). then x (thirdOf words t)) f) ∙ is 6 e
+  if-walked e p q =
+      q
+      ∙ ap (λ (x : ℕ). branches b (then (thenᶜ x (firstOf words t)) (secondOf words t)) (then (thenᶜ x (firstOf words t)) (thirdOf words t))) p
+      ∙ is 6 e
 
   pub while-walked : {m l r : ℕ} → Tagged words t 7 → m ≡ more b n 1 → l ≡ thenᶜ m (firstOf words t) → r ≡ then l (secondOf words t) → r ≡ here
   unfolding nodeOf inWord layout table nodes expressionOf walked
   while-walked e p s q = q ∙ ap (λ (x : ℕ). then x (secondOf words t)) (s ∙ ap (λ (x : ℕ). thenᶜ x (firstOf words t)) p) ∙ is 7 e
 
-  pub call-walked : {m l r : ℕ} → Tagged words t 8 → m ≡ more b n 1 → l ≡ thenᵃ m (argumentsOf words t) → r ≡ called b l (T (procedureOf words t)) → r ≡ here
+  pub call-walked : {m r : ℕ} → Tagged words t 8 → m ≡ more b n 1 → r ≡ called b (thenᵃ m (argumentsOf words t)) (T (procedureOf words t)) → r ≡ here
   unfolding nodeOf inWord layout table nodes expressionOf walked
-  call-walked e p s q = q ∙ ap (λ (x : ℕ). called b x (T (procedureOf words t))) (s ∙ ap (λ (x : ℕ). thenᵃ x (argumentsOf words t)) p) ∙ is 8 e
+  call-walked e p q = q ∙ ap (λ (x : ℕ). called b (thenᵃ x (argumentsOf words t)) (T (procedureOf words t))) p ∙ is 8 e
 
-  pub synch-walked : {m k l r : ℕ} → Tagged words t 11 → m ≡ more b n 1 → k ≡ more b m 1 → l ≡ then k (firstOf words t) → r ≡ then l (secondOf words t)
-      → r ≡ here
+  pub synch-walked : {m k r : ℕ} → Tagged words t 11 → m ≡ more b n 1 → k ≡ more b m 1 → r ≡ then (then k (firstOf words t)) (secondOf words t) → r ≡ here
   unfolding nodeOf inWord layout table nodes expressionOf walked
-  synch-walked e p d s q =
-      q ∙ ap (λ (x : ℕ). then x (secondOf words t)) (s ∙ ap (λ (x : ℕ). then x (firstOf words t)) (d ∙ ap (λ (x : ℕ). more b x 1) p)) ∙ is 11 e
+  synch-walked e p d q = q ∙ ap (λ (x : ℕ). then (then x (firstOf words t)) (secondOf words t)) (d ∙ ap (λ (x : ℕ). more b x 1) p) ∙ is 11 e
 
   -- a term of another sort, null or a variable
   pub rest-walked : NoneOf (word.tagOf (wordOf words t)) (20 ∷ 19 ∷ 18 ∷ 11 ∷ 10 ∷ 9 ∷ 8 ∷ 7 ∷ 6 ∷ 5 ∷ 4 ∷ 3 ∷ 2 ∷ []) → n ≡ here

@@ -1,2 +1,4 @@
 pub mod RowLaws
 pub mod LaidLaws
+pub mod MarkLaws
+pub mod Within

@@ -16,7 +16,7 @@ map-at f (x ∷ l) zero a b h = refl
 map-at f (x ∷ l) (suc n) a b h = map-at f l n a b (omega arith)
 
 module _ (t : ℕ) (h : t < textEnd) where
-  row-is : getD textRows t [] ≡ textRow (textOf t)
+  pub row-is : getD textRows t [] ≡ textRow (textOf t)
   unfolding textRows textOf texts ascii
   row-is = map-at textRow texts t [] [] h
 

@@ -5,6 +5,7 @@ use plan_pen::Gap;
 use rows::Rows;
 ghost use mathlib.Core.Path.{_≡_};
 ghost use Prim.Native.Nat.{_+_, _<_, _≤_};
+ghost use mathlib.Core.List.{_++_};
 ghost use lib.ListN.{length, replicate};
 ghost use Rattle.format.specs.Area.{overwrite};
 ghost use Rattle.text.specs.inner.Wrote.{Wrote};
@@ -12,21 +13,44 @@ ghost use Rattle.plan_notation.specs.Tokens.{textEnd, textOf};
 ghost use Rattle.plan_notation.specs.inner.Known.{Known};
 ghost use Rattle.plan_notation.specs.Layout.{laidOut};
 ghost use Rattle.plan_layout.specs.inner.Rows.{textRows};
+ghost use Rattle.plan_layout.specs.inner.Marks.{gapOf, Marked, WroteWithin};
 ghost use Rattle.plan_pen.specs.inner.Pens.{gapBytes};
 
-// How many bytes the text of some tokens has.
-pub fn length(tokens: &[u8]) -> usize
-    requires { ⌜ Known (now tokens) × (length (now tokens) ≤ 16384) ⌝ }
-    ensures { λ r. ⌜ r ≡ length (laidOut (now (tokens .entry))) ⌝ }
+// A gap as a mark.
+fn mark(gap: Gap) -> u16
+    requires { ⌜ gap .spaces ≤ 40 ⌝ }
+    ensures { λ r. ⌜ gapOf r ≡ gap ⌝ }
 {
-    let rows = rows::rows();
+    if gap.feed {
+        return 64 + gap.spaces as u16;
+    }
+    gap.spaces as u16
+}
+
+fn gap_of(mark: u16) -> Gap
+    ensures { λ r. ⌜ r ≡ gapOf mark ⌝ }
+{
+    let number = mark as usize;
+    Gap {
+        spaces: number % 64,
+        feed: 64 <= number,
+    }
+}
+
+// How many bytes the text of some tokens has, and the marks of their gaps.
+pub fn measure(rows: &Rows, tokens: &[u8], marks: &mut [u16]) -> usize
+    requires { ⌜ (now rows ≡ textRows) × Known (now tokens) ⌝ }
+    requires { ⌜ (length (now tokens) ≤ 16384) × (length (now tokens) ≤ length (now marks)) ⌝ }
+    ensures { λ r. ⌜ (r ≡ length (laidOut (now (tokens .entry)))) × Marked (now (tokens .entry)) (now (marks .exit)) ⌝ }
+{
     let mut pen = plan_pen::start();
     let mut total = 0;
     let mut index = 0;
     while index < tokens.len() {
         let token = tokens[index];
-        let width = rows::width(&rows, token);
+        let width = rows::width(rows, token);
         let gap = plan_pen::gap_before(pen, token, width);
+        marks[index] = mark(gap);
         total += plan_pen::length_of(gap) + width;
         pen = plan_pen::after(pen, token, width, gap);
         index += 1;
@@ -72,23 +96,57 @@ fn put_token(area: &mut [u8], at: usize, rows: &Rows, token: u8, width: usize) -
     next
 }
 
-// Their text, at the start of an area that has room for it.
-pub fn lay_out(tokens: &[u8], area: &mut [u8])
-    requires { ⌜ Known (now tokens) × (length (now tokens) ≤ 16384) ⌝ }
-    requires { ⌜ length (laidOut (now tokens)) ≤ length (now area) ⌝ }
+// A gap, and spaces up to 41 bytes.
+fn put_wide_gap(area: &mut [u8], at: usize, gap: Gap) -> usize
+    requires { ⌜ (gap .spaces ≤ 40) × (at + 41 ≤ length (now area)) ⌝ }
+    ensures { λ r. ⌜ WroteWithin (now (area .entry)) at (gapBytes gap) (now (area .exit)) r (at + 41) ⌝ }
+{
+    if gap.feed {
+        let next = text::put_byte(area, at, b'\n');
+        put_spaces(area, next, 40);
+        return next + gap.spaces;
+    }
+    put_spaces(area, at, 40);
+    at + gap.spaces
+}
+
+// A token, and what else is in its row.
+fn put_wide_token(area: &mut [u8], at: usize, rows: &Rows, token: u8, width: usize) -> usize
+    requires { ⌜ now rows ≡ textRows ⌝ }
+    requires { ⌜ (token < textEnd) × (width ≡ length (textOf token)) × (at + 9 ≤ length (now area)) ⌝ }
+    ensures { λ r. ⌜ WroteWithin (now (area .entry)) at (textOf token) (now (area .exit)) r (at + 9) ⌝ }
+{
+    let row = rows::row(rows, token);
+    text::put_word(area, at, &row[1..10]);
+    at + width
+}
+
+// A token behind its gap. Where the text goes on for 50 bytes, both are written with so many bytes as any has, since what follows is written over these.
+fn put_next(rows: &Rows, token: u8, gap: Gap, area: &mut [u8], at: usize, total: usize) -> usize
+    requires { ⌜ (now rows ≡ textRows) × (token < textEnd) × (gap .spaces ≤ 40) ⌝ }
+    requires { ⌜ (at + length (gapBytes gap) + length (textOf token) ≤ total) × (total ≤ length (now area)) ⌝ }
+    ensures { λ r. ⌜ WroteWithin (now (area .entry)) at (gapBytes gap ++ textOf token) (now (area .exit)) r total ⌝ }
+{
+    let width = rows::width(rows, token);
+    if total - at < 50 {
+        let next = put_gap(area, at, gap);
+        return put_token(area, next, rows, token, width);
+    }
+    let next = put_wide_gap(area, at, gap);
+    put_wide_token(area, next, rows, token, width)
+}
+
+// The text of some tokens and the marks of their gaps, at the start of an area that has room for it.
+pub fn lay_out(rows: &Rows, tokens: &[u8], marks: &[u16], area: &mut [u8], total: usize)
+    requires { ⌜ (now rows ≡ textRows) × Known (now tokens) × Marked (now tokens) (now marks) × (length (now tokens) ≤ 16384) ⌝ }
+    requires { ⌜ (length (now tokens) ≤ length (now marks)) × (total ≡ length (laidOut (now tokens))) × (total ≤ length (now area)) ⌝ }
     ensures { λ r. ⌜ now (area .exit) ≡ overwrite (laidOut (now (tokens .entry))) (now (area .entry)) ⌝ }
 {
-    let rows = rows::rows();
-    let mut pen = plan_pen::start();
     let mut at = 0;
     let mut index = 0;
     while index < tokens.len() {
-        let token = tokens[index];
-        let width = rows::width(&rows, token);
-        let gap = plan_pen::gap_before(pen, token, width);
-        at = put_gap(area, at, gap);
-        at = put_token(area, at, &rows, token, width);
-        pen = plan_pen::after(pen, token, width, gap);
+        let gap = gap_of(marks[index]);
+        at = put_next(rows, tokens[index], gap, area, at, total);
         index += 1;
     }
     text::put_byte(area, at, b'\n');

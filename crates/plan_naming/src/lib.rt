@@ -1,6 +1,5 @@
 // Checks 5 and 6: every name of a term, by a procedure or by a parent, with the sort that the table wants there.
 pub mod notes; // notes.rt: both checks at once, where a plan passes them
-mod sorts; // sorts.rt: the sort of a term, and the arguments of a call
 
 use plan_header::layout;
 use plan_operands::rows;
@@ -16,15 +15,8 @@ ghost use lib.ListN.{replicate};
 ghost use Rattle.format.specs.inner.Lowest.{Lowest};
 ghost use Rattle.plan_packed.specs.Refusals.{wronglySorted};
 ghost use Rattle.plan_packed.specs.inner.Rows.{layoutRows, Tagged};
-ghost use Rattle.plan_packed.specs.inner.Steps.{Right, Loaded, nodeIn, childOf, childrenOf, lowerAll, countAll, moreOf, Counted, rootTimes, allTimes};
+ghost use Rattle.plan_packed.specs.inner.Steps.{Right, Loaded, nodeIn, childOf, childrenOf, lowerAll, countAll, Counted, rootTimes, allTimes};
 ghost use Rattle.plan_packed.specs.inner.Steps.{misplacedRoot, notOnce};
-
-// The count of a term that is named once more; two stands for more.
-fn once_more(times: u8) -> u8
-    ensures { λ r. ⌜ r ≡ moreOf times ⌝ }
-{
-    if times == 0 { 1 } else { 2 }
-}
 
 // Term `index` is named, where the table wants `sort`: it is counted in `times`, and the answer is the lower of `best` and the
 // term, if that is of another sort.
@@ -42,8 +34,8 @@ fn name(
     ensures { λ r. ⌜ r ≡ lowerAll (now (words .entry)) (childOf sort index ∷ []) best ⌝ }
     ensures { λ r. ⌜ now (times .exit) ≡ countAll (childOf sort index ∷ []) (now (times .entry)) ⌝ }
 {
-    times[index] = once_more(times[index]);
-    sorts::lower(rows, words, sort, index, best)
+    times[index] = plan_name_tests::once_more(times[index]);
+    plan_name_tests::lower(rows, words, sort, index, best)
 }
 
 // A term names its children: where one is absent, so are those after it.
@@ -128,7 +120,7 @@ pub fn name_all(
     let mut term = 0;
     while term < count {
         let least = name_children(rows, words, times, term, best);
-        best = sorts::lower_call(plan, procedures, count, words, term, least);
+        best = plan_name_tests::lower_call(plan, procedures, count, words, term, least);
         term += 1;
     }
     best

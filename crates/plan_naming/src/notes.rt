@@ -1,5 +1,4 @@
 // Checks 5 and 6 at once, where a plan passes them: a note of each term that is named, the sort that is wanted of it, or that it is named again.
-use crate::sorts;
 use plan_header::layout;
 use plan_operands::rows;
 use plan_operands::rows::Rows;
@@ -10,21 +9,14 @@ ghost use mathlib.Core.List.{[], _∷_};
 ghost use Prim.Native.Nat.{_<_};
 ghost use lib.ListN.{replicate};
 ghost use Rattle.plan_packed.specs.inner.Rows.{layoutRows};
-ghost use Rattle.plan_packed.specs.inner.Steps.{Headed, Right, Loaded, childOf, noteOf, noteAll, RootsNoted, TermsNoted, Fitting};
-
-// The note of a term that is named once more.
-fn noted(note: u8, sort: u8) -> u8
-    ensures { λ r. ⌜ r ≡ noteOf note sort ⌝ }
-{
-    if note == 0 { sort } else { 4 }
-}
+ghost use Rattle.plan_packed.specs.inner.Steps.{Headed, Right, Loaded, childOf, noteAll, RootsNoted, TermsNoted, Fitting};
 
 // Term `index` is named, where `sort` is wanted.
 pub fn name(notes: &mut [u8; 1024], sort: u8, index: usize)
     requires { ⌜ index < 1024 ⌝ }
     ensures { λ r. ⌜ now (notes .exit) ≡ noteAll (childOf sort index ∷ []) (now (notes .entry)) ⌝ }
 {
-    notes[index] = noted(notes[index], sort);
+    notes[index] = plan_name_tests::noted(notes[index], sort);
 }
 
 // Each procedure names its root.
@@ -62,7 +54,7 @@ pub fn all_fit(
         if notes[term] != rows::number(rows, tag, rows::SORT) {
             return false;
         }
-        if tag == tags::CALL && sorts::wrong_list(plan, procedures, count, words, term) {
+        if tag == tags::CALL && plan_name_tests::wrong_list(plan, procedures, count, words, term) {
             return false;
         }
         term += 1;

@@ -4,6 +4,7 @@ pub mod Operands
 pub mod Stack
 pub mod Fields
 pub mod Later
+pub mod SomeTokens
 pub mod Steps
 pub mod Stepping
 pub mod Writing

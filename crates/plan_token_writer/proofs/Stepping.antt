@@ -17,15 +17,13 @@ use Rattle.text.specs.inner.Wrote.{Wrote}
 use Rattle.text.proofs.Added.{added-none}
 use Rattle.plan_notation.specs.Shown.{shown}
 use Rattle.plan_token_writer.specs.declared.Standing.{Standing}
-use Rattle.plan_token_writer.specs.inner.Items.{shownAs, itemTokens, tokensIn, rowAs, rowItems, newTokens, isNew, stackOf, Low, weight, Pushed, Stepped}
+use Rattle.plan_token_writer.specs.inner.Items.{shownAs, itemTokens, tokensIn, rowAs, rowItems, newTokens, isNew, stackOf, InContext, weight, Pushed, Stepped}
 use Rattle.plan_token_writer.proofs.Fields.{new-length}
 use Rattle.plan_token_writer.proofs.Later.{row-later}
 use Rattle.plan_token_writer.proofs.RowTokens.{row-tokens}
 use Rattle.plan_token_writer.proofs.ItemTokens.{tokens-append}
-use Rattle.plan_token_writer.proofs.Steps.{stack-length, top-item, written-less, expanded-less, row-length, row-some, low-more}
-
-within : (n r t : ℕ) {b : ℕ} → r ≡ b + n → n ≤ 8 → b ≤ 8 * (t % 1024) → r ≤ 8208
-within n r t e h k = omega arith
+use Rattle.plan_token_writer.proofs.SomeTokens.{each-some}
+use Rattle.plan_token_writer.proofs.Steps.{stack-length, top-item, written-less, expanded-less, row-some, contexts-more}
 
 module _ (words : List ℕ) (o : Ordered words) where
   -- the tokens of an item by what it is
@@ -56,15 +54,15 @@ module _ (words : List ℕ) (o : Ordered words) where
   unfolding isNew
   no-new c k e h q = true≢false (sym (rw (lt-ltb c 4 h, eq-eqb k 2 q) refl) ∙ e)
 
-  module _ (area : List ℕ) (at : ℕ) (stack : List ℕ) (top : ℕ) (h : 0 < top) (low : Low (stackOf stack top)) where
+  module _ (area : List ℕ) (at : ℕ) (stack : List ℕ) (top : ℕ) (h : 0 < top) (contexts : InContext (stackOf stack top)) where
     abbrev item : ℕ
     item = getD stack (top - 1) 0
 
     abbrev under : List ℕ
     under = stackOf stack (top - 1)
 
-    low-top : Low (item ∷ under)
-    low-top = subst Low (top-item stack top h) low
+    contexts-top : InContext (item ∷ under)
+    contexts-top = subst InContext (top-item stack top h) contexts
 
     tokens-top : tokensIn words (stackOf stack top) ≡ itemTokens words item ++ tokensIn words under
     unfolding tokensIn
@@ -74,16 +72,19 @@ module _ (words : List ℕ) (o : Ordered words) where
     pub room : (n : ℕ) (ts : List ℕ) → itemTokens words item ≡ ts → at + length (tokensIn words (stackOf stack top)) ≤ n → at + length ts ≤ n
     room n ts e r = omega (arith, ap length tokens-top, length-append (itemTokens words item) (tokensIn words under), ap length e)
 
+    -- no more items are on the stack than tokens are left
+    pub within : (n : ℕ) → at + length (tokensIn words (stackOf stack top)) ≤ n → top ≤ n
+    within n r = omega (arith, each-some words (stackOf stack top), stack-length stack top)
+
     -- it is written
-    pub written-step : (area′ ts : List ℕ) (r : ℕ) → itemTokens words item ≡ ts → 0 < length ts → top ≤ 8208 → Wrote area at ts area′ r
+    pub written-step : (area′ ts : List ℕ) (r : ℕ) → itemTokens words item ≡ ts → 0 < length ts → Wrote area at ts area′ r
         → Stepped words area at stack top area′ stack (record { top = top - 1; at = r })
-    written-step area′ ts r e n m v =
+    written-step area′ ts r e n v =
         record {
           tokens = ts;
           wrote = v;
           left = ap (λ (l : List ℕ). l ++ tokensIn words under) (sym e) ∙ sym tokens-top;
-          low = low-top .1;
-          inside = omega arith;
+          contexts = contexts-top .1;
           kept = refl;
           less = subst (λ (is : List ℕ). weight words under < weight words is) (sym (top-item stack top h)) (written-less words item under (rw e n));
         }
@@ -95,23 +96,18 @@ module _ (words : List ℕ) (o : Ordered words) where
       abbrev items : List ℕ
       items = rowItems (item / 1024 % 4) (getD words term 0) (rowAs (item / 1024) (tagOf (getD words term 0)))
 
-      -- there is room for the items of its row
-      pub below-term : top - 1 ≤ 8 * term
-      below-term = omega (arith, low-top .0 k .1, stack-length stack (top - 1))
-
       -- it gives way to them
       pub expanded-step : (stack′ : List ℕ) (r : ℕ) → isNew (item / 1024) (tagOf (getD words term 0)) ≡ false
           → rowAs (item / 1024) (tagOf (getD words term 0)) < 28
           → Pushed stack (top - 1) items stack′ r → Stepped words area at stack top area stack′ (record { top = r; at = at })
       expanded-step stack′ r e n p =
-          let ts = row-tokens words o term (item / 1024) (low-top .0 k .0) (no-new _ _ e) ∙ sym (of-term item k) in
+          let ts = row-tokens words o term (item / 1024) (contexts-top .0 k) (no-new _ _ e) ∙ sym (of-term item k) in
           let later = row-later words o term (item / 1024 % 4) (item / 1024) in
           record {
             tokens = [];
             wrote = added-none area at;
             left = ap (tokensIn words) (p .items) ∙ tokens-append words items under ∙ ap (λ (l : List ℕ). l ++ tokensIn words under) ts ∙ sym tokens-top;
-            low = subst Low (sym (p .items)) (low-more term items under (row-length _ _ _ n) (low-top .0 k .1) later (low-top .1));
-            inside = within (length items) r item (p .top) (row-length _ _ _ n) below-term;
+            contexts = subst InContext (sym (p .items)) (contexts-more term items under later (contexts-top .1));
             kept = p .kept;
             less = subst (λ (is : List ℕ). weight words (stackOf stack′ r) < weight words is) (sym (top-item stack top h))
                 (subst (λ (is : List ℕ). weight words is < weight words (item ∷ under)) (sym (p .items))
@@ -120,8 +116,8 @@ module _ (words : List ℕ) (o : Ordered words) where
 
   -- ---- the whole
 
-  pub start-low : (root : ℕ) → root < 1024 → Low (root ∷ [])
-  start-low root h = (λ k. (omega arith, omega arith), tt)
+  pub start-context : (root : ℕ) → root < 1024 → InContext (root ∷ [])
+  start-context root h = (λ k. omega arith, tt)
 
   pub start-tokens : (root : ℕ) → root < 1024 → tokensIn words (root ∷ []) ≡ shown 0 (treeIn words root)
   unfolding tokensIn shownAs
@@ -145,15 +141,15 @@ new-item words o i k m b h e f g q = of-new words o i h (ap (isNew (i / 1024)) (
 pub new-some : (m : ℕ) → 0 < length (newTokens m)
 new-some m = omega (arith, new-length m)
 
-pub row-item : (words : List ℕ) → Ordered words → (area : List ℕ) (at : ℕ) (stack : List ℕ) (top : ℕ) → 0 < top → Low (stackOf stack top)
+pub row-item : (words : List ℕ) → Ordered words → (area : List ℕ) (at : ℕ) (stack : List ℕ) (top : ℕ) → 0 < top → InContext (stackOf stack top)
     → (k r x : ℕ) (b : Bool)
     → getD stack (top - 1) 0 < 16384 → k ≡ tagOf (getD words (getD stack (top - 1) 0 % 1024) 0) → b ≡ isNew (getD stack (top - 1) 0 / 1024) k → b ≡ false
     → x ≡ rowAs (getD stack (top - 1) 0 / 1024) k → x < 28 → (stack′ : List ℕ)
     → Pushed stack (top - 1) (rowItems (getD stack (top - 1) 0 / 1024 % 4) (getD words (getD stack (top - 1) 0 % 1024) 0) x) stack′ r
     → Stepped words area at stack top area stack′ (record { top = r; at = at })
-row-item words o area at stack top h low k r x b l e f g q n stack′ p =
+row-item words o area at stack top h contexts k r x b l e f g q n stack′ p =
     let w = getD words (getD stack (top - 1) 0 % 1024) 0 in
     let c = getD stack (top - 1) 0 / 1024 in
     let y : x ≡ rowAs c (tagOf w) = q ∙ ap (rowAs c) e in
-    expanded-step words o area at stack top h low l stack′ r (ap (isNew c) (sym e) ∙ sym f ∙ g) (rw (sym y) n)
+    expanded-step words o area at stack top h contexts l stack′ r (ap (isNew c) (sym e) ∙ sym f ∙ g) (rw (sym y) n)
     (subst (λ (z : ℕ). Pushed stack (top - 1) (rowItems (c % 4) w z) stack′ r) y p)

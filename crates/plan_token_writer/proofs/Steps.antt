@@ -10,7 +10,7 @@ use lib.ListN.{length, length-append, getD}
 use borrow.Author.Tests.{le-leb, lt-leb}
 use Rattle.format.proofs.Ranges.{by-range}
 use Rattle.plan_notation.specs.Tokens.{opening, closing}
-use Rattle.plan_token_writer.specs.inner.Items.{token, itemTokens, tokensIn, itemRows, rowNumber, itemsFrom, rowItems, stackOf, Low, keyOf, weight}
+use Rattle.plan_token_writer.specs.inner.Items.{token, itemTokens, tokensIn, itemRows, rowNumber, itemsFrom, rowItems, stackOf, InContext, keyOf, weight}
 use Rattle.plan_token_writer.proofs.ItemTokens.{tokens-append}
 use Rattle.plan_token_writer.proofs.Operands.{items-length, few-items}
 use Rattle.plan_token_writer.proofs.Later.{LaterItem, Later}
@@ -114,10 +114,6 @@ row-some d w r h = go (ltb (rowNumber r 0) d)
     go true = omega arith
     go false = omega (arith, items-length w r 2 (rowNumber r 1), some-items r h)
 
-pub low-more : (t : ℕ) (js is : List ℕ) → length js ≤ 8 → length is ≤ 8 * t → Later t js → Low is → Low (js ++ is)
-low-more t [] is n m l k = k
-low-more t (j ∷ js) is n m l k =
-    (λ h. (l .0 h .0, by (length js) (length is) _ t (j % 1024) (length-append js is) (omega arith) m (l .0 h .1)), low-more t js is (omega arith) m (l .1) k)
-  where
-    by : (a b c t x : ℕ) → c ≡ a + b → a ≤ 7 → b ≤ 8 * t → t < x → c ≤ 8 * x
-    by a b c t x e n m l = omega arith
+pub contexts-more : (t : ℕ) (js is : List ℕ) → Later t js → InContext is → InContext (js ++ is)
+contexts-more t [] is l k = k
+contexts-more t (j ∷ js) is l k = (λ h. l .0 h .0, contexts-more t js is (l .1) k)

@@ -9,31 +9,29 @@ use Rattle.text.specs.inner.Wrote.{Wrote}
 use Rattle.text.proofs.Added.{added-none, added-more, added-as}
 use Rattle.plan_notation.specs.Shown.{loose, shown}
 use Rattle.plan_token_writer.specs.declared.Standing.{Standing}
-use Rattle.plan_token_writer.specs.inner.Items.{tokensIn, itemRows, stackOf, Low, Pushed, Running, Stepped}
-use Rattle.plan_token_writer.proofs.Stepping.{start-low, start-tokens}
+use Rattle.plan_token_writer.specs.inner.Items.{tokensIn, itemRows, stackOf, InContext, Pushed, Running, Stepped}
+use Rattle.plan_token_writer.proofs.Stepping.{start-context, start-tokens}
 
 -- of these tokens some are written
 pub record Writing (words ts area₀ : List ℕ) (from : ℕ) (stack : List ℕ) (top : ℕ) (area : List ℕ) (at : ℕ) : Type 0 where
   pub before : List ℕ
   pub whole : before ++ tokensIn words (stackOf stack top) ≡ ts
   pub wrote : Wrote area₀ from before area at
-  pub low : Low (stackOf stack top)
-  pub inside : top ≤ 8208
-  pub size : length stack ≡ 8208
+  pub contexts : InContext (stackOf stack top)
+  pub size : length area₀ + 8 ≤ length stack
 
 -- at the start the root is on the stack
 pub starts : (words : List ℕ) → Ordered words → (root : ℕ) → root < 1024 → (area : List ℕ) (from : ℕ) {stack stack′ : List ℕ} {top : ℕ}
     → Pushed stack 0 (root ∷ []) stack′ top
-    → length stack ≡ 8208 → Writing words (shown loose (treeIn words root)) area from stack′ top area from
+    → length area + 8 ≤ length stack → Writing words (shown loose (treeIn words root)) area from stack′ top area from
 unfolding stackOf
 starts words o root h area from p e =
     record {
       before = [];
       whole = ap (tokensIn words) (p .items) ∙ start-tokens words o root h;
       wrote = added-none area from;
-      low = subst Low (sym (p .items)) (start-low words o root h);
-      inside = omega (arith, p .top);
-      size = p .kept ∙ e;
+      contexts = subst InContext (sym (p .items)) (start-context words o root h);
+      size = omega (arith, p .kept, e);
     }
 
 -- what a step is given
@@ -45,9 +43,8 @@ going words o {ts} {area₀} {from} {stack} {top} rows e r h w =
       ordered = o;
       table = e;
       some = h;
-      inside = w .inside;
-      size = w .size;
-      low = w .low;
+      size = omega (arith, w .size, w .wrote .kept);
+      contexts = w .contexts;
       room = omega (arith, r, w .wrote .next, w .wrote .kept, ap length (w .whole), length-append (w .before) (tokensIn words (stackOf stack top)));
     }
 
@@ -59,9 +56,8 @@ goes-on {words} {stack′ = stack′} {r} w s =
       before = w .before ++ s .tokens;
       whole = append-assoc (w .before) (s .tokens) (tokensIn words (stackOf stack′ (r .top))) ∙ ap (λ (l : List ℕ). w .before ++ l) (s .left) ∙ w .whole;
       wrote = added-more (w .wrote) (s .wrote);
-      low = s .low;
-      inside = s .inside;
-      size = s .kept ∙ w .size;
+      contexts = s .contexts;
+      size = omega (arith, s .kept, w .size);
     }
 
 -- at the end nothing is on the stack

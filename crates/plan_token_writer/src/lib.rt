@@ -234,7 +234,8 @@ fn step(
     Standing { top: next, at: at }
 }
 
-// The tree of an expression, behind the tokens that are there, by the rows and a stack that are lent.
+// The tree of an expression, behind the tokens that are there, by the rows and a stack that are lent: each item on it has a token, and a row eight items at
+// most.
 pub fn write_expression(
     words: &[usize; 1024],
     rows: &Rows,
@@ -244,7 +245,7 @@ pub fn write_expression(
     from: usize,
 ) -> usize
     requires { ⌜ Ordered (now words) × (root < 1024) ⌝ }
-    requires { ⌜ (now rows ≡ itemRows) × (length (now stack) ≡ 8208) ⌝ }
+    requires { ⌜ (now rows ≡ itemRows) × (length (now area) + 8 ≤ length (now stack)) ⌝ }
     requires { ⌜ from + length (shown loose (treeIn (now words) root)) ≤ length (now area) ⌝ }
     ensures { λ r. ⌜ Wrote (now (area .entry)) from (shown loose (treeIn (now (words .entry)) root)) (now (area .exit)) r ⌝ }
 {

@@ -15,15 +15,17 @@ use Rattle.plan_packed.specs.Check.{refusal}
 use Rattle.plan_packed.proofs.Accepted.{Accepted, accepted}
 use Rattle.plan_packed.proofs.Passing.{all-right}
 use Rattle.plan_packed.proofs.NodeOrder.{ordered, tree-is}
-use Rattle.plan_written.specs.Written.{versionNumber}
+use Rattle.plan_written.specs.Written.{sizeOfAll, versionNumber}
+use Rattle.plan_written.proofs.Right.{countsIn, RightDefinitions}
 use Rattle.plan_written.proofs.Passes.{plan-length, body-is, parameters-are, version-back, version-of, mask-is}
 use Rattle.plan_written.proofs.Sizes.{program-procedures}
-use Rattle.plan_written.proofs.RightPlans.{right-program}
+use Rattle.plan_written.proofs.RightPlans.{count-is, total-is, right-program}
 use Rattle.text.specs.inner.Wrote.{Wrote}
 use Rattle.text.proofs.Added.{added-none, added-more, added-as}
 use Rattle.plan_notation.specs.Tokens.{versionWord}
 use Rattle.plan_notation.specs.Shown.{loose, shown, volatileTokens, procedureTokens, mainFirst, shownPlan}
-use Rattle.plan_notation.proofs.ShownCodes.{plan-fit}
+use Rattle.plan_notation.proofs.ShownCodes.{shown-fit, plan-fit}
+use Rattle.plan_token_writer.proofs.Fields.{few-fields}
 use Rattle.plan_tokens.specs.inner.Begun.{Given, procedureHead, procedureAlone, headerTokens, restFrom, proceduresBehind}
 
 -- ---- procedures one by one
@@ -83,6 +85,41 @@ unfolding procedureAlone
 alone-length plan p =
     length-append (procedureHead p (parameters plan p)) (shown loose (treeAt plan (root plan p)))
     ∙ ap (λ (n : ℕ). n + length (shown loose (treeAt plan (root plan p)))) (head-length p (parameters plan p))
+
+-- at most eleven to a term, six more to a procedure
+behind-few : (counts : List ℕ) (p : ℕ) (ds : List Procedure) → RightDefinitions counts ds → length (procedureTokens p ds) ≤ 11 * sizeOfAll ds + 6 * length ds
+unfolding procedureTokens sizeOfAll
+behind-few counts p [] h = omega arith
+behind-few counts p (d ∷ ds) h =
+    omega (
+      arith,
+      shown-fit counts (d .body) 0 (h .0 .right-body) .few,
+      behind-few counts (suc p) ds (h .1),
+      length-append (shown loose (d .body)) (procedureTokens (suc p) ds),
+    )
+
+main-few : (counts : List ℕ) (ds : List Procedure) → RightDefinitions counts ds → length (mainFirst ds) ≤ 11 * sizeOfAll ds + 6 * length ds
+unfolding mainFirst sizeOfAll
+main-few counts [] h = omega arith
+main-few counts (d ∷ ds) h =
+    omega (
+      arith,
+      shown-fit counts (d .body) 0 (h .0 .right-body) .few,
+      behind-few counts 1 ds (h .1),
+      length-append (shown loose (d .body)) (procedureTokens 1 ds),
+    )
+
+-- `volatile` and 31 fields
+volatiles-few : (m : ℕ) → length (volatileTokens (fieldsFrom m 1 31)) ≤ 32
+unfolding volatileTokens
+volatiles-few m = go (fieldsFrom m 1 31) (few-fields m 1 31)
+  where
+    go : (fs : List ℕ) → length fs ≤ 31 → length (volatileTokens fs) ≤ 32
+    go [] h = omega arith
+    go (f ∷ fs) h = omega arith
+
+in-bytes : (whole v m t p n : ℕ) → whole ≡ suc (suc (v + m)) → v ≤ 32 → m ≤ 11 * t + 6 * p → n ≡ 8 + 2 * p + 5 * t → whole ≤ 3 * n + 10
+in-bytes whole v m t p n e h k l = omega arith
 
 module _ (plan words : List ℕ) (r : Given plan words) where
   facts : Accepted plan
@@ -158,21 +195,32 @@ module _ (plan words : List ℕ) (r : Given plan words) where
   pub plan-few : length (shownPlan (programOf plan)) ≤ 11490
   plan-few = plan-fit (programOf plan) (right-program plan (r .passes)) .few
 
-  whole-length : length (headerTokens plan) + (length main + length (proceduresBehind plan)) ≤ 11490
+  -- a plan has at most three tokens for each of its bytes, and ten more
+  pub plan-within : length (shownPlan (programOf plan)) ≤ 3 * length plan + 10
+  unfolding shownPlan
+  plan-within =
+      in-bytes _ _ _ _ _ _
+      (ap (λ (n : ℕ). suc (suc n)) (length-append (volatileTokens (fieldsFrom (programOf plan .volatiles) 1 31)) (mainFirst (programOf plan .procedures))))
+      (volatiles-few (programOf plan .volatiles))
+      (rw (total-is plan (r .passes), count-is plan (r .passes)) at (main-few (countsIn (programOf plan .procedures)) (programOf plan .procedures)
+      (right-program plan (r .passes) .each-procedure))) sized
+
+  whole-length : length (headerTokens plan) + (length main + length (proceduresBehind plan)) ≡ length (shownPlan (programOf plan))
   whole-length =
       let a = ap length (sym whole-is) ∙ length-append (headerTokens plan) (main ++ proceduresBehind plan) in
       let b = length-append main (proceduresBehind plan) in
-      omega (arith, plan-few, a, b)
+      omega (arith, a, b)
 
   -- there is room for each part
-  pub room-for-header : (n : ℕ) → 16384 ≤ n → length (headerTokens plan) ≤ n
-  room-for-header n h = omega (arith, whole-length)
+  module _ (n : ℕ) (room : length (shownPlan (programOf plan)) ≤ n) where
+    pub room-for-header : length (headerTokens plan) ≤ n
+    room-for-header = omega (arith, whole-length)
 
-  pub room-for-main : (n k : ℕ) → 16384 ≤ n → k ≡ 0 + length (headerTokens plan) → k + length main ≤ n
-  room-for-main n k h e = omega (arith, whole-length)
+    pub room-for-main : (k : ℕ) → k ≡ 0 + length (headerTokens plan) → k + length main ≤ n
+    room-for-main k e = omega (arith, whole-length)
 
-  pub room-for-others : (n k l : ℕ) → 16384 ≤ n → k ≡ 0 + length (headerTokens plan) → l ≡ k + length main → l + length (proceduresBehind plan) ≤ n
-  room-for-others n k l h e f = omega (arith, whole-length)
+    pub room-for-others : (k l : ℕ) → k ≡ 0 + length (headerTokens plan) → l ≡ k + length main → l + length (proceduresBehind plan) ≤ n
+    room-for-others k l e f = omega (arith, whole-length)
 
   -- main, by the root that the code has
   pub main-wrote : {x : ℕ} {area area′ : List ℕ} {at n : ℕ} → x ≡ root plan 0 → Wrote area at (shown loose (treeIn words x)) area′ n

@@ -69,7 +69,7 @@ fn put_procedure(
     at: usize,
     procedure: usize,
 ) -> usize
-    requires { ⌜ Given (now plan) (now words) × (now rows ≡ itemRows) × (length (now stack) ≡ 8208) ⌝ }
+    requires { ⌜ Given (now plan) (now words) × (now rows ≡ itemRows) × (length (now area) + 8 ≤ length (now stack)) ⌝ }
     requires { ⌜ (procedure < procedures (now plan)) × (at + length (procedureAlone (now plan) procedure) ≤ length (now area)) ⌝ }
     ensures { λ r. ⌜ Wrote (now (area .entry)) at (procedureAlone (now (plan .entry)) procedure) (now (area .exit)) r ⌝ }
 {
@@ -101,7 +101,7 @@ fn put_procedures(
     from: usize,
     count: usize,
 ) -> usize
-    requires { ⌜ Given (now plan) (now words) × (now rows ≡ itemRows) × (length (now stack) ≡ 8208) ⌝ }
+    requires { ⌜ Given (now plan) (now words) × (now rows ≡ itemRows) × (length (now area) + 8 ≤ length (now stack)) ⌝ }
     requires { ⌜ count ≡ procedures (now plan) ⌝ }
     requires { ⌜ from + length (proceduresBehind (now plan)) ≤ length (now area) ⌝ }
     ensures { λ r. ⌜ Wrote (now (area .entry)) from (proceduresBehind (now (plan .entry))) (now (area .exit)) r ⌝ }
@@ -115,16 +115,16 @@ fn put_procedures(
     at
 }
 
-// An accepted plan, whose terms are in `words`; how many tokens it has.
-pub fn put_plan(plan: &[u8], words: &[usize; 1024], area: &mut [u8]) -> usize
-    requires { ⌜ Given (now plan) (now words) × (16384 ≤ length (now area)) ⌝ }
+// An accepted plan, whose terms are in `words`, by a stack that is lent; how many tokens it has.
+pub fn put_plan(plan: &[u8], words: &[usize; 1024], stack: &mut [u16], area: &mut [u8]) -> usize
+    requires { ⌜ Given (now plan) (now words) × (length (shownPlan (programOf (now plan))) ≤ length (now area)) ⌝ }
+    requires { ⌜ length (now area) + 8 ≤ length (now stack) ⌝ }
     ensures { λ r. ⌜ Wrote (now (area .entry)) 0 (shownPlan (programOf (now (plan .entry)))) (now (area .exit)) r ⌝ }
 {
     let count = layout::procedures(plan);
     let root = layout::root(plan, 0);
     let rows = rows::all();
-    let mut stack = [0u16; 8208];
     let main = put_header(plan, area);
-    let behind = write_expression(words, &rows, &mut stack, root, area, main);
-    put_procedures(plan, words, &rows, &mut stack, area, behind, count)
+    let behind = write_expression(words, &rows, stack, root, area, main);
+    put_procedures(plan, words, &rows, stack, area, behind, count)
 }

@@ -14,6 +14,7 @@ use Rattle.plan_packed.specs.Check.{refusal}
 use Rattle.log_records.specs.Record.{Record}
 use Rattle.log_records.specs.Packed.{bytesOf}
 use Rattle.rules.specs.Run as run
+use Rattle.rules.specs.Run.{instances, log}
 use Rattle.rules.specs.Play.{runOf}
 use Rattle.run_outcome.specs.declared.NoRoom.the-variants as room
 use Rattle.run_outcome.specs.declared.Stop.{Stop}
@@ -25,8 +26,8 @@ use Rattle.run_outcome.specs.declared.ThreadState.the-variants as state
 use Rattle.run_outcome.specs.declared.Thread.{Thread}
 use Rattle.run_outcome.specs.declared.Outcome.{Outcome}
 use Rattle.run_state.specs.declared.Setting.{Setting}
-use Rattle.run_engine.specs.inner.Machine.{Played, playOf, startOf, CountedBefore}
-use Rattle.run_engine.specs.declared.Ran.{Ran}
+use Rattle.run_engine.specs.inner.Engine.{Played, playOf, startOf, CountedBefore}
+use Rattle.run_tally.specs.declared.Ran.{Ran}
 use Rattle.refinement.proofs.Meant as meant
 use Rattle.refinement.proofs.States.{settingOf}
 use Rattle.refinement.proofs.Plays.{stateMeant, stopMeant, outcomeMeant, plays-recorded, plays-defined}
@@ -90,22 +91,22 @@ module _ (plan ws rs area : List ℕ) (passes : refusal plan ≡ none) (words : 
 
   module _ (ps : List ℕ) (small : (j : ℕ) → j < length ps → getD ps j 0 ≤ 7) (wide : 3 * length ps ≤ length area) where
     defined : (outcomeMeant (code ps .outcome) ≡ run.outcomeOf (programOf plan) (run.play (programOf plan) ps))
-        × (code ps .area ≡ overwrite (bytesOf (run.play (programOf plan) ps .log)) area)
+        × (code ps .area ≡ overwrite (bytesOf (log (run.play (programOf plan) ps))) area)
     defined = plays-defined plan ws rs passes loaded ps area small wide
 
     pub outcome-defined : outcomeOf (code ps .outcome) ≡ run.outcomeOf (programOf plan) (runOf plan ps)
     unfolding runOf
     outcome-defined = outcome-same _ ∙ defined .0
 
-    area-defined : code ps .area ≡ overwrite (bytesOf (runOf plan ps .log)) area
+    area-defined : code ps .area ≡ overwrite (bytesOf (log (runOf plan ps))) area
     unfolding runOf
     area-defined = defined .1
 
-    moves-defined : code ps .outcome .moves ≡ length (runOf plan ps .instances)
+    moves-defined : code ps .outcome .moves ≡ length (instances (runOf plan ps))
     unfolding outcomeOf run.outcomeOf
     moves-defined = ap (λ (o : run.Outcome). o .moves) outcome-defined
 
-    records-defined : code ps .outcome .records ≡ length (runOf plan ps .log)
+    records-defined : code ps .outcome .records ≡ length (log (runOf plan ps))
     unfolding outcomeOf run.outcomeOf
     records-defined = ap (λ (o : run.Outcome). o .records) outcome-defined
 

@@ -11,7 +11,7 @@ use Rattle.plan_refusals.specs.declared.Checked.the-variants as checked
 use Rattle.rules.specs.Run as run
 use Rattle.rules.specs.Play as play
 use Rattle.rules.specs.Play.{playRefusal, played, playedBy, areaAfter, areaBy}
-use Rattle.run_engine.specs.declared.Ran.{Ran}
+use Rattle.run_tally.specs.declared.Ran.{Ran}
 use Rattle.play.specs.declared.outcome.Played.{Played}
 use Rattle.run_refusals.specs.inner.Refused.{RefusedAs}
 use Rattle.plan_packed.specs.inner.Steps.{Loaded}

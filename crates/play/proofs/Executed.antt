@@ -6,6 +6,7 @@ use Rattle.plan_packed.specs.Trees.{programOf}
 use Rattle.plan_refusals.specs.declared.Checked.the-variants as checked
 use Rattle.plan_refusals.proofs.Stages.{passed-refused}
 use Rattle.rules.specs.Run as run
+use Rattle.rules.specs.Run.{log}
 use Rattle.rules.specs.Executed.{Executed}
 use Rattle.rules.specs.Play as play
 use Rattle.rules.specs.Play.{played, areaAfter, runOf}
@@ -17,10 +18,10 @@ use Rattle.play.proofs.Ran.{ran-passed, ran-outcome, ran-area, ran-is}
 
 -- of every entry whose answer is `played`
 pub played-executed : (plan schedule area : List ℕ) (o : run.Outcome) → play.Played.ran o ≡ played plan schedule area
-    → Executed (programOf plan) schedule o (runOf plan schedule .log)
+    → Executed (programOf plan) schedule o (log (runOf plan schedule))
 unfolding runOf
 played-executed plan schedule area o h =
-    along (λ (x : run.Outcome). Executed (programOf plan) schedule x (runOf plan schedule .log)) (sym (ran-outcome plan schedule area o h))
+    along (λ (x : run.Outcome). Executed (programOf plan) schedule x (log (runOf plan schedule))) (sym (ran-outcome plan schedule area o h))
     (plan-executed plan (ran-passed plan schedule area o h .plan-passes) schedule)
 
 -- of the entry `play`
@@ -29,7 +30,7 @@ pub executed-on : (plan schedule area : List ℕ) (p : Played) → answered p �
 executed-on plan schedule area p h after left e =
     let x = ran-is plan schedule area p h e in
     record {
-      log = runOf plan schedule .log;
+      log = log (runOf plan schedule);
       executed = played-executed plan schedule area (outcomeOf (p .outcome)) x;
       area = left ∙ ran-area plan schedule area (outcomeOf (p .outcome)) x;
     }

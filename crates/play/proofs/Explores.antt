@@ -10,7 +10,7 @@ use lib.Seq.{getD-take, take-length}
 use Rattle.plan_packed.specs.Format.{version, procedures, volatiles}
 use Rattle.run_outcome.specs.declared.Outcome.{Outcome}
 use Rattle.run_state.specs.declared.Setting.{Setting}
-use Rattle.run_engine.specs.inner.Machine.{startOf}
+use Rattle.run_engine.specs.inner.Engine.{startOf}
 use Rattle.run_engine.specs.declared.Explored.{Explored}
 use Rattle.run_engine.specs.inner.Exploring.{allPicks, NotedAt, firstRun, ExploredOn}
 use Rattle.run_engine.proofs.AllPicks.{length-all, given-at, noted-at, unnoted}

@@ -10,7 +10,7 @@ use Rattle.plan_packed.proofs.Decoded.{well-formed}
 use Rattle.plan_refusals.specs.declared.Checked.the-variants as checked
 use Rattle.rules.specs.State.{State}
 use Rattle.rules.specs.Run as run
-use Rattle.rules.specs.Run.{Run, stopped, afterPass, afterMove}
+use Rattle.rules.specs.Run.{Run, stopped, afterPass, afterMove, instances}
 use Rattle.rules.specs.Execution.{Execution, ends, passes, lacks-key, no-room, moves}
 use Rattle.rules.specs.Play.{played, runOf}
 use Rattle.rules.proofs.Executed.{play-executes}
@@ -18,8 +18,8 @@ use Rattle.play.specs.declared.outcome.Played.{Played}
 use Rattle.play.specs.Answer.{outcomeOf, answered}
 use Rattle.play.proofs.Ran as ran
 
-pub few : {g : Program} {s : State} {ps : List ℕ} {r : Run} → Execution g s ps r → (r .picks ≤ length ps) × (length (r .instances) ≤ length ps)
-unfolding stopped afterPass afterMove
+pub few : {g : Program} {s : State} {ps : List ℕ} {r : Run} → Execution g s ps r → (r .picks ≤ length ps) × (length (instances r) ≤ length ps)
+unfolding instances stopped afterPass afterMove
 few ends = (omega arith, omega arith)
 few (passes h x) = let d = few x in (omega arith, omega arith)
 few (lacks-key h) = (omega arith, omega arith)
@@ -28,7 +28,7 @@ few (moves h k x) = let d = few x in (omega arith, omega arith)
 
 -- of a play that the entry does not refuse
 module _ (plan schedule area : List ℕ) (p : Played) (h : answered p ≡ played plan schedule area) (e : p .checked ≡ checked.Passed) where
-  pub moves-are : p .outcome .moves ≡ length (runOf plan schedule .instances)
+  pub moves-are : p .outcome .moves ≡ length (instances (runOf plan schedule))
   unfolding outcomeOf run.outcomeOf
   moves-are = ap (λ (o : run.Outcome). o .moves) (ran.outcome-is plan schedule area p h e)
 

@@ -17,6 +17,7 @@ use Rattle.plan_refusals.specs.declared.Checked.the-variants as checked
 use Rattle.log_records.specs.Packed.{bytesOf}
 use Rattle.log_records.proofs.RoundTrip.{length-bytes}
 use Rattle.rules.specs.Run as run
+use Rattle.rules.specs.Run.{log}
 use Rattle.rules.specs.Play as play
 use Rattle.rules.specs.Play.{playRefusal, played, playedBy, areaAfter, areaBy, runOf}
 use Rattle.rules.proofs.TidyRuns.{tidy-play}
@@ -48,7 +49,7 @@ module _ (plan schedule area : List ℕ) (o : run.Outcome) (h : play.Played.ran 
   unfolding played playedBy
   ran-outcome = ap (outcomeOr o) (h ∙ ap (playedBy plan schedule) not-refused)
 
-  pub ran-area : areaAfter plan schedule area ≡ overwrite (bytesOf (runOf plan schedule .log)) area
+  pub ran-area : areaAfter plan schedule area ≡ overwrite (bytesOf (log (runOf plan schedule))) area
   unfolding areaAfter areaBy
   ran-area = ap (areaBy plan schedule area) not-refused
 
@@ -68,7 +69,7 @@ module _ (plan schedule area : List ℕ) (p : Played) (h : answered p ≡ played
   unfolding outcomeOf run.outcomeOf
   stop-is = ap (λ (o : run.Outcome). o .stop) outcome-is
 
-  pub records-are : p .outcome .records ≡ length (runOf plan schedule .log)
+  pub records-are : p .outcome .records ≡ length (log (runOf plan schedule))
   unfolding outcomeOf run.outcomeOf
   records-are = ap (λ (o : run.Outcome). o .records) outcome-is
 
@@ -81,10 +82,10 @@ module _ (plan schedule area : List ℕ) (p : Played) (h : answered p ≡ played
 
   module _ (after : List ℕ) (left : after ≡ areaAfter plan schedule area) where
     abbrev bytes : List ℕ
-    bytes = bytesOf (runOf plan schedule .log)
+    bytes = bytesOf (log (runOf plan schedule))
 
     count : 3 * p .outcome .records ≡ length bytes
-    count = ap (λ (n : ℕ). 3 * n) records-are ∙ sym (length-bytes (runOf plan schedule .log))
+    count = ap (λ (n : ℕ). 3 * n) records-are ∙ sym (length-bytes (log (runOf plan schedule)))
 
     after-is : after ≡ overwrite bytes area
     after-is = left ∙ ran-area plan schedule area (outcomeOf (p .outcome)) ran-is
@@ -94,5 +95,5 @@ module _ (plan schedule area : List ℕ) (p : Played) (h : answered p ≡ played
     within n q = omega (arith, q, count, ap (λ (l : List ℕ). length l) after-is, overwrite-covers bytes area)
 
     -- and begins with them
-    pub begins : (n : ℕ) → n ≡ 3 * p .outcome .records → take (n - 0) after ≡ bytesOf (runOf plan schedule .log)
+    pub begins : (n : ℕ) → n ≡ 3 * p .outcome .records → take (n - 0) after ≡ bytesOf (log (runOf plan schedule))
     begins n q = ap (λ (k : ℕ). take k after) (sub-zero n ∙ q ∙ count) ∙ ap (take (length bytes)) after-is ∙ overwrite-first bytes area

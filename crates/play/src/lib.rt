@@ -13,8 +13,8 @@ use crate::outcome::Played;
 use plan_header::layout;
 use plan_refusals::Checked;
 use run_engine::Explored;
-use run_engine::Ran;
 use run_state::Setting;
+use run_tally::Ran;
 
 // The roots of the procedures.
 fn roots(plan: &[u8], procedures: usize) -> [usize; 32]

@@ -20,18 +20,18 @@ use Rattle.rules.specs.State.{State, start}
 use Rattle.rules.specs.Step.{attempt}
 use Rattle.rules.specs.Room.{Room}
 use Rattle.rules.specs.Run as run
-use Rattle.rules.specs.Run.{Run, Status, status, logged, play}
+use Rattle.rules.specs.Run.{MadeMove, Run, Status, status, log, instances, stopped, play}
 use Rattle.rules.specs.Play.{runOf}
 use Rattle.rules.proofs.Equivalence.{complete-passed}
 use Rattle.rules.proofs.TidyRuns.{tidy-play}
-use Rattle.rules.proofs.RunAppend.{stopped-short, all-dealt-with, records-grow}
+use Rattle.rules.proofs.RunAppend.{andThen, instances-append, log-append, all-dealt-with, none-lacked, stopped-short, records-grow}
 use Rattle.run_outcome.specs.declared.NoRoom.{NoRoom}
 use Rattle.run_outcome.specs.declared.NoRoom.the-variants as room
 use Rattle.run_outcome.specs.declared.Stop.{Stop}
 use Rattle.run_outcome.specs.declared.Stop.the-variants as stop
 use Rattle.run_open_threads.specs.inner.Open.{absent}
-use Rattle.run_engine.specs.inner.Machine.{picksBefore}
-use Rattle.run_engine.specs.declared.Ran.{Ran}
+use Rattle.run_engine.specs.inner.Engine.{picksBefore}
+use Rattle.run_tally.specs.declared.Ran.{Ran}
 use Rattle.play.specs.Answer.{roomOf, stopOf, statusOf, outcomeOf}
 use Rattle.play.specs.inner.RunOn.{Given, RunOn}
 use Rattle.play.proofs.Threads.{status-of}
@@ -42,7 +42,7 @@ use Rattle.preview.specs.Preview.{Preview, shownAfter, withPick}
 use Rattle.preview.specs.PlaysAs.{onePickMore, stoppedNext, PlaysAs, STOPPED, PASSED, MOVED, RACE, NO-ROOM}
 use Rattle.preview.specs.Answer.{bytesIn, recordOf, answered, BytesAsLogged, AsLogged}
 use Rattle.run_last_pick.specs.inner.LastPick.{recordIn, lastRecord, lastPick, LastGiven}
-use Rattle.preview.proofs.PlaysAs.{preview-plays}
+use Rattle.preview.proofs.PlaysAs.{stopped-next, preview-plays}
 use Rattle.run_last_pick.proofs.LastPick.{early, full, raced, passed, moved, recorded}
 
 -- ---- the code's stop, by what it means
@@ -152,49 +152,49 @@ module _ (plan schedule : List ℕ) (pick : ℕ) (ws area : List ℕ) (given : G
     unfolding outcomeOf run.outcomeOf
     picks-are = ap (λ (o : run.Outcome). o .picks) (ran .outcome) ∙ ap (λ (y : Run). y .picks) (sym same)
 
-    moves-are : r .outcome .moves ≡ length (t .instances)
+    moves-are : r .outcome .moves ≡ length (instances t)
     unfolding outcomeOf run.outcomeOf
-    moves-are = ap (λ (o : run.Outcome). o .moves) (ran .outcome) ∙ ap (λ (y : Run). length (y .instances)) (sym same)
+    moves-are = ap (λ (o : run.Outcome). o .moves) (ran .outcome) ∙ ap (λ (y : Run). length (instances y)) (sym same)
 
-    records-are : r .outcome .records ≡ length (t .log)
+    records-are : r .outcome .records ≡ length (log t)
     unfolding outcomeOf run.outcomeOf
-    records-are = ap (λ (o : run.Outcome). o .records) (ran .outcome) ∙ ap (λ (y : Run). length (y .log)) (sym same)
+    records-are = ap (λ (o : run.Outcome). o .records) (ran .outcome) ∙ ap (λ (y : Run). length (log y)) (sym same)
 
-    moves-before : t .picks ≡ n + 1 → r .before .moves ≡ length (shorter .instances)
-    moves-before e = ran .moves-before ∙ ap (λ (ps : List ℕ). length (runOf plan ps .instances)) (before-is (picks-are ∙ e))
+    moves-before : t .picks ≡ n + 1 → r .before .moves ≡ length (instances shorter)
+    moves-before e = ran .moves-before ∙ ap (λ (ps : List ℕ). length (instances (runOf plan ps))) (before-is (picks-are ∙ e))
 
-    records-before : t .picks ≡ n + 1 → r .before .records ≡ length (shorter .log)
-    records-before e = ran .records-before ∙ ap (λ (ps : List ℕ). length (runOf plan ps .log)) (before-is (picks-are ∙ e))
+    records-before : t .picks ≡ n + 1 → r .before .records ≡ length (log shorter)
+    records-before e = ran .records-before ∙ ap (λ (ps : List ℕ). length (log (runOf plan ps))) (before-is (picks-are ∙ e))
 
     -- the last record
-    module _ (e : Record) (log-is : t .log ≡ shorter .log ++ (e ∷ [])) where
+    module _ (e : Record) (log-is : log t ≡ log shorter ++ (e ∷ [])) where
       abbrev i : ℕ
       i = r .outcome .records - 1
 
-      last-index : r .outcome .records ≡ length (shorter .log) + 1
-      last-index = records-are ∙ ap (λ (l : List Record). length l) log-is ∙ length-append (shorter .log) (e ∷ [])
+      last-index : r .outcome .records ≡ length (log shorter) + 1
+      last-index = records-are ∙ ap (λ (l : List Record). length l) log-is ∙ length-append (log shorter) (e ∷ [])
 
-      longer-log : longer .log ≡ shorter .log ++ (e ∷ [])
-      longer-log = ap (λ (y : Run). y .log) (sym same) ∙ log-is
+      longer-log : log longer ≡ log shorter ++ (e ∷ [])
+      longer-log = ap (λ (y : Run). log y) (sym same) ∙ log-is
 
-      i-is : i ≡ length (shorter .log)
+      i-is : i ≡ length (log shorter)
       i-is = omega (arith, last-index)
 
-      at : getElem? (longer .log) i ≡ some e
-      at = ap (λ (l : List Record). getElem? l i) longer-log ∙ ap (getElem? (shorter .log ++ (e ∷ []))) i-is ∙ last-of (shorter .log) e
+      at : getElem? (log longer) i ≡ some e
+      at = ap (λ (l : List Record). getElem? l i) longer-log ∙ ap (getElem? (log shorter ++ (e ∷ []))) i-is ∙ last-of (log shorter) e
 
       tidy : Tidy e
       unfolding runOf
-      tidy = tidy-at (longer .log) (tidy-play (programOf plan) (well-formed plan (given .plan-passes)) (withPick schedule pick) .all-tidy) i e at
+      tidy = tidy-at (log longer) (tidy-play (programOf plan) (well-formed plan (given .plan-passes)) (withPick schedule pick) .all-tidy) i e at
 
-      below : i < length (longer .log)
-      below = omega (arith, last-index, ap (λ (l : List Record). length l) longer-log, length-append (shorter .log) (e ∷ []))
+      below : i < length (log longer)
+      below = omega (arith, last-index, ap (λ (l : List Record). length l) longer-log, length-append (log shorter) (e ∷ []))
 
       last-is : recordOf (lastRecord after (r .outcome)) ≡ e
-      last-is = record-is (longer .log) area after (ran .area) i e below at tidy
+      last-is = record-is (log longer) area after (ran .area) i e below at tidy
 
       last-bytes : BytesAsLogged (lastRecord after (r .outcome))
-      last-bytes = bytes-are (longer .log) area after (ran .area) i e below at tidy
+      last-bytes = bytes-are (log longer) area after (ran .area) i e below at tidy
 
   -- the schedule dealt with every pick of its own
   all-dealt : shorter .stop ≡ run.Stop.end → shorter .picks ≡ n
@@ -204,6 +204,18 @@ module _ (plan schedule : List ℕ) (pick : ℕ) (ws area : List ℕ) (given : G
   short : (shorter .stop ≡ run.Stop.end → ⊥) → shorter .picks < n
   unfolding runOf play
   short h = stopped-short (programOf plan) start schedule h
+
+  -- where it did not stop, the rule instances and the log go on in those of a run from where it stands
+  more-instances : (u : Run) → length (instances (andThen shorter u)) ≡ length (instances shorter) + length (instances u)
+  more-instances u = ap length (instances-append shorter u) ∙ length-append (instances shorter) (instances u)
+
+  more-log : (u : Run) → shorter .stop ≡ run.Stop.end → log (andThen shorter u) ≡ log shorter ++ log u
+  unfolding runOf play
+  more-log u h = log-append shorter u (none-lacked (programOf plan) start schedule h)
+
+  -- the run of one pick, with these moves
+  abbrev next : List MadeMove → State → Run
+  next ms s = record { stop = run.Stop.end; picks = 1; moves = ms; lacked = none; final = s }
 
   -- by what the code finds
   found-as : (y : Previewed) (x : Preview) → lastOf r n pick after ≡ y → answered y ≡ preview.Previewed.shows x → AsLogged y
@@ -222,40 +234,46 @@ module _ (plan schedule : List ℕ) (pick : ℕ) (ws area : List ℕ) (given : G
   one-more h = omega (arith, all-dealt h)
 
   pub found : (x : Preview) (t : Run) → t ≡ longer → PlaysAs (programOf plan) pick shorter x t → Found r schedule pick after x
-  unfolding answered logged
+  unfolding answered instances log stopped
   found x t same (STOPPED h) =
       let few : r .outcome .picks < n = omega (arith, short h, picks-are _ same) in
       found-as _ _ (early (r .outcome) (r .before .moves) (r .before .records) n pick after few)
       (ap (λ (e : run.Stop). preview.Previewed.shows (Preview.stopped e)) (stop-is _ same)) tt (λ q e. absurd (omega arith))
   found x t same (PASSED {a} h p) =
       let e : r .outcome .stop ≡ stop.End = ended _ (stop-is _ same) in
-      let m : r .outcome .moves ≡ r .before .moves = moves-are _ same ∙ ap length (append-nil (shorter .instances)) ∙ sym (moves-before _ same (one-more h)) in
+      let none-more = more-instances (next [] (shorter .final)) in
+      let m : r .outcome .moves ≡ r .before .moves = omega (arith, none-more, moves-are _ same, moves-before _ same (one-more h)) in
       let y : statusOf (getD (r .outcome .threads) pick absent .state) ≡ status a =
       status-of (programOf plan) longer (r .outcome) (ran .outcome) pick small
       ∙ ap (λ (z : State). status (attempt (programOf plan) z pick)) (ap (λ (u : Run). u .final) (sym same))
       ∙ ap status (complete-passed (programOf plan) (shorter .final) pick p) in
       found-as _ _ (passed (r .outcome) (r .before .moves) (r .before .records) n pick after (omega (arith, picks-are _ same, one-more h)) e m)
       (ap (λ (z : Status). preview.Previewed.shows (Preview.passed z)) y) tt (ended-once e)
-  found x t same (MOVED {R} {e = none} h m k) =
+  found x t same (MOVED {R} {e = none} {s′} h m k) =
       let e : r .outcome .stop ≡ stop.End = ended _ (stop-is _ same) in
-      let grown : length (shorter .instances ++ (R ∷ [])) ≡ length (shorter .instances) + 1 = length-append (shorter .instances) (R ∷ []) in
-      let n : r .outcome .records ≡ r .before .records = records-are _ same ∙ ap length (append-nil (shorter .log))
+      let u : Run = next (record { thread = pick; rule = R; entry = none } ∷ []) s′ in
+      let grown = more-instances u in
+      let n : r .outcome .records ≡ r .before .records = records-are _ same ∙ ap length (more-log u h ∙ append-nil (log shorter))
       ∙ sym (records-before _ same (one-more h)) in
       found-as _ _ (moved (r .outcome) (r .before .moves) (r .before .records) _ pick after (omega (arith, picks-are _ same, one-more h)) e
       (λ q. omega (arith, q, grown, moves-are _ same, moves-before _ same (one-more h))) n) refl tt (ended-once e)
-  found x t same (MOVED {R} {e = some e} h m k) =
+  found x t same (MOVED {R} {e = some e} {s′} h m k) =
       let q : r .outcome .stop ≡ stop.End = ended _ (stop-is _ same) in
-      let grown : length (shorter .instances ++ (R ∷ [])) ≡ length (shorter .instances) + 1 = length-append (shorter .instances) (R ∷ []) in
+      let u : Run = next (record { thread = pick; rule = R; entry = some e } ∷ []) s′ in
+      let grown = more-instances u in
+      let last = more-log u h in
       found-as _ _ (recorded (r .outcome) (r .before .moves) (r .before .records) n pick after (omega (arith, picks-are _ same, one-more h)) q
       (λ q. omega (arith, q, grown, moves-are _ same, moves-before _ same (one-more h)))
-      (λ q. omega (arith, q, last-index _ same e refl, records-before _ same (one-more h))))
-      (ap (λ (z : Record). preview.Previewed.shows (Preview.moved (some z))) (last-is _ same e refl))
-      (last-bytes _ same e refl) (ended-once q)
+      (λ q. omega (arith, q, last-index _ same e last, records-before _ same (one-more h))))
+      (ap (λ (z : Record). preview.Previewed.shows (Preview.moved (some z))) (last-is _ same e last))
+      (last-bytes _ same e last) (ended-once q)
   found x t same (RACE {e} h l) =
+      let last : log (stoppedNext shorter run.Stop.race (some e)) ≡ log shorter ++ (e ∷ []) =
+      ap log (stopped-next shorter run.Stop.race (some e)) ∙ more-log (stopped run.Stop.race (some e) (shorter .final)) h in
       found-as _ _ (raced (r .outcome) (r .before .moves) (r .before .records) n pick after
       (omega (arith, picks-are _ same, all-dealt h)) (lacked _ (stop-is _ same)))
-      (ap (λ (z : Record). preview.Previewed.shows (Preview.race z)) (last-is _ same e refl))
-      (last-bytes _ same e refl) (λ q y. omega (arith, last-index _ same e refl))
+      (ap (λ (z : Record). preview.Previewed.shows (Preview.race z)) (last-is _ same e last))
+      (last-bytes _ same e last) (λ q y. omega (arith, last-index _ same e last))
   found x t same (NO-ROOM {k = k} h m q) =
       let w = no-room _ k (stop-is _ same) in
       found-as _ _ (full (r .outcome) (r .before .moves) (r .before .records) n pick after (omega (arith, picks-are _ same, all-dealt h)) (w .0) (w .1))
@@ -271,8 +289,8 @@ module _ (plan schedule : List ℕ) (pick : ℕ) (ws area : List ℕ) (given : G
   unfolding runOf play
   before-fewer =
       let k : ℕ = min (r .outcome .picks) (length (withPick schedule pick) - 1) in
-      let h : length (play (programOf plan) (take k (withPick schedule pick)) .log) ≤ length (play (programOf plan) (withPick schedule pick) .log) =
-      along (λ (ps : List ℕ). length (play (programOf plan) (take k (withPick schedule pick)) .log) ≤ length (play (programOf plan) ps .log))
+      let h : length (log (play (programOf plan) (take k (withPick schedule pick)))) ≤ length (log (play (programOf plan) (withPick schedule pick))) =
+      along (λ (ps : List ℕ). length (log (play (programOf plan) (take k (withPick schedule pick)))) ≤ length (log (play (programOf plan) ps)))
       (take-append-drop k (withPick schedule pick))
       (records-grow (programOf plan) start (take k (withPick schedule pick)) (drop k (withPick schedule pick))) in
       omega (arith, h, ran .records-before, records-are longer refl)
@@ -281,7 +299,7 @@ module _ (plan schedule : List ℕ) (pick : ℕ) (ws area : List ℕ) (given : G
   last-given =
       record {
         one-of-eight = small;
-        within = omega (arith, covers (longer .log) area after (ran .area), records-are longer refl);
+        within = omega (arith, covers (log longer) area after (ran .area), records-are longer refl);
         raced = shown-found .raced-once;
         grown = before-fewer;
       }

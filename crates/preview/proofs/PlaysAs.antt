@@ -3,7 +3,7 @@ use Prim.Native.Nat.{ℕ, _+_}
 use native.Mathlib.Omega.{arith}
 use mathlib.Core.Path.{_≡_, refl, ap, sym, _∙_, subst as along}
 use mathlib.Core.Bool.{true≢false}
-use mathlib.Core.List.{List, [], _∷_, _++_, append-nil}
+use mathlib.Core.List.{List, [], _∷_, append-nil}
 use mathlib.Core.Option.{Option, some, none}
 use Rattle.format.specs.Refusal.{Refusal}
 use Rattle.plan_packed.specs.Syntax.{Program}
@@ -27,21 +27,21 @@ use Rattle.preview.specs.PlaysAs.{onePickMore, stoppedNext, PlaysAs, STO
 
 -- the rest of a run that has no more picks
 abbrev nothingMore : State → Run
-nothingMore s = stopped Stop.end [] s
+nothingMore s = stopped Stop.end none s
+
+pub stopped-next : (r : Run) (e : Stop) (lacked : Option Record) → stoppedNext r e lacked ≡ andThen r (stopped e lacked (r .final))
+unfolding stopped
+stopped-next r e lacked = λ i. record { stop = e; picks = no-more i; moves = sym (append-nil (r .moves)) i; lacked = lacked; final = r .final }
+  where
+    no-more : r .picks ≡ r .picks + 0
+    no-more = omega arith
 
 -- ---- the run did not stop
 
 module _ (g : Program) (p : ℕ) (r : Run) (ended : r .stop ≡ Stop.end) where
   -- the run after thread p's pick with this answer
   abbrev onAnswer : PickAnswer → Run
-  onAnswer a = andThen r (resume (r .final) nothingMore a)
-
-  stopped-next : (e : Stop) (L : List Record) → stoppedNext r e L ≡ andThen r (stopped e L (r .final))
-  unfolding stopped
-  stopped-next e L = λ i. record { stop = e; picks = no-more i; instances = sym (append-nil (r .instances)) i; log = r .log ++ L; final = r .final }
-    where
-      no-more : r .picks ≡ r .picks + 0
-      no-more = omega arith
+  onAnswer a = andThen r (resume (r .final) p nothingMore a)
 
   passed-as : {a : Attempt} → PassedOver (r .final) p a → PlaysAs g p r (Preview.passed (status a)) (onAnswer PickAnswerOf.passed)
   unfolding resume afterPass stopped
@@ -51,7 +51,7 @@ module _ (g : Program) (p : ℕ) (r : Run) (ended : r .stop ≡ Stop.end) where
       → PlaysAs g p r (shownBy x (withinRoom m k)) (onAnswer (withinRoom m k))
   unfolding shownBy withinRoom resume afterMove stopped
   within m h x none e = MOVED ended h e
-  within m h x (some k) e = along (PlaysAs g p r (Preview.noRoom k)) (stopped-next (Stop.noRoom k) []) (NO-ROOM ended h e)
+  within m h x (some k) e = along (PlaysAs g p r (Preview.noRoom k)) (stopped-next r (Stop.noRoom k) none) (NO-ROOM ended h e)
 
   module _ (I : Reachable g (r .final)) where
     met : (a : Attempt) → Described g (r .final) (I .one-key) p a → Ruled a
@@ -61,7 +61,7 @@ module _ (g : Program) (p : ℕ) (r : Run) (ended : r .stop ≡ Stop.end) where
     met (AttemptOf.finished v) h k = passed-as h
     met (AttemptOf.waiting w) h k = passed-as h
     met (AttemptOf.stuck x) h k = passed-as (unless-ruled x _ k h)
-    met (AttemptOf.lacking e) h k = along (PlaysAs g p r (Preview.race e)) (stopped-next Stop.race (e ∷ [])) (RACE ended h)
+    met (AttemptOf.lacking e) h k = along (PlaysAs g p r (Preview.race e)) (stopped-next r Stop.race (some e)) (RACE ended h)
     met (AttemptOf.moves m) h k = within m h (status (AttemptOf.moves m)) (noRoomFor (m .rule) (r .final) p (m .state)) refl
 
     shown-plays : PlaysAs g p r (shown g (r .final) p) (onAnswer (step g (r .final) p))

@@ -11,17 +11,17 @@ use Rattle.rules.specs.State.{State}
 use Rattle.rules.specs.Rules.{Rule, Moves, Lacks}
 use Rattle.rules.specs.Step.{Attempt}
 use Rattle.rules.specs.Room.{PassedOver, Room, noRoomFor}
-use Rattle.rules.specs.Run.{Stop, Run, status, logged}
+use Rattle.rules.specs.Run.{Stop, MadeMove, Run, status}
 use Rattle.rules.specs.Play.{runOf}
 use Rattle.preview.specs.Preview.{Preview, withPick, Previewed}
 
--- a run with one pick more dealt with: it did not stop, these rules and these records came last, and it stands in this state
-abbrev pub onePickMore : Run → List Rule → List Record → State → Run
-onePickMore r Rs L s = record { stop = Stop.end; picks = r .picks + 1; instances = r .instances ++ Rs; log = r .log ++ L; final = s }
+-- a run with one pick more dealt with: it did not stop, these moves came last, and it stands in this state
+abbrev pub onePickMore : Run → List MadeMove → State → Run
+onePickMore r ms s = record { stop = Stop.end; picks = r .picks + 1; moves = r .moves ++ ms; lacked = none; final = s }
 
--- a run that stopped at the next pick, "unmoved", with these records last
-abbrev pub stoppedNext : Run → Stop → List Record → Run
-stoppedNext r e L = record { stop = e; picks = r .picks; instances = r .instances; log = r .log ++ L; final = r .final }
+-- a run that stopped at the next pick, "unmoved": how, and the record of the access that lacked its key if that stopped it
+abbrev pub stoppedNext : Run → Stop → Option Record → Run
+stoppedNext r e lacked = record { stop = e; picks = r .picks; moves = r .moves; lacked = lacked; final = r .final }
 
 -- The run r of a schedule, what the preview of thread p's pick after it says, and the run of the schedule with that pick added.
 module _ (g : Program) (p : ℕ) (r : Run) where
@@ -31,19 +31,19 @@ module _ (g : Program) (p : ℕ) (r : Run) where
     -- "passed over and why": the thread is absent, finished, waiting or stuck, and nothing changes
     PASSED : {a : Attempt}
         → r .stop ≡ Stop.end → PassedOver (r .final) p a
-        → PlaysAs (Preview.passed (status a)) (onePickMore r [] [] (r .final))
-    -- "moved and with which record": one rule instance more, and its record, if it has one, after the others
+        → PlaysAs (Preview.passed (status a)) (onePickMore r [] (r .final))
+    -- "moved and with which record": one move more, its rule and its record, if it has one, after the others
     MOVED : {R : Rule} {e : Option Record} {s′ : State}
         → r .stop ≡ Stop.end → Moves g (r .final) p R e s′ → noRoomFor R (r .final) p s′ ≡ none
-        → PlaysAs (Preview.moved e) (onePickMore r (R ∷ []) (logged e []) s′)
+        → PlaysAs (Preview.moved e) (onePickMore r (record { thread = p; rule = R; entry = e } ∷ []) s′)
     -- "race": the run stops for want of a key, and its record is the last
     RACE : {e : Record}
         → r .stop ≡ Stop.end → Lacks g (r .final) p e
-        → PlaysAs (Preview.race e) (stoppedNext r Stop.race (e ∷ []))
+        → PlaysAs (Preview.race e) (stoppedNext r Stop.race (some e))
     -- "no room and of what kind": the run stops for room that a rule's move would lack
     NO-ROOM : {R : Rule} {e : Option Record} {s′ : State} {k : Room}
         → r .stop ≡ Stop.end → Moves g (r .final) p R e s′ → noRoomFor R (r .final) p s′ ≡ some k
-        → PlaysAs (Preview.noRoom k) (stoppedNext r (Stop.noRoom k) [])
+        → PlaysAs (Preview.noRoom k) (stoppedNext r (Stop.noRoom k) none)
 
 -- of the answer to a preview, where it is not refused
 abbrev pub PlaysIfShown : (plan schedule : List ℕ) → ℕ → Previewed → Type 0

@@ -28,9 +28,9 @@ use Rattle.run_look.specs.declared.Sight.the-variants as sight
 use Rattle.run_state.specs.declared.acted.Act.{Act}
 use Rattle.run_look.specs.inner.Look.{objectBy, objectOf, fieldBy, aboutField, lookBy, lookOf}
 use Rattle.run_act.specs.inner.Act.{pureBy, actBy, actOf}
-use Rattle.run_engine.specs.inner.Machine as engine
+use Rattle.run_engine.specs.inner.Engine as engine
 use Rattle.run_pick.specs.inner.Pick.{noHead, lookMet}
-use Rattle.run_engine.specs.inner.Machine.{noCell, noObject, headAt, cellNumber}
+use Rattle.run_engine.specs.inner.Engine.{noCell, noObject, headAt, cellNumber}
 use Rattle.refinement.proofs.Meant.{closed, StandsBy}
 use Rattle.refinement.proofs.States.{settingOf, Headed, Related}
 use Rattle.refinement.proofs.Looks.{MeetsBy, attempt-value}
@@ -43,18 +43,18 @@ use Rattle.refinement.proofs.ObjectActs.{new-meets, fork-meets, join-me
 use Rattle.refinement.proofs.PlainActs.{pure-meets, condition-meets, while-meets, body-meets}
 
 -- what the code would see and do, were r thread p's redex
-abbrev otherFor : engine.Machine → Ready → Head
+abbrev otherFor : engine.EngineState → Ready → Head
 otherFor m r = getD (m .heads) (getD (m .objects) (objectOf r) noObject .thread % 16) noHead
 
-abbrev sees : Setting → engine.Machine → ℕ → Ready → Sight
+abbrev sees : Setting → engine.EngineState → ℕ → Ready → Sight
 sees setting m p r = lookOf setting (headFor m p r) (getD (m .cells) (cellNumber r) noCell) (getD (m .objects) (objectOf r) noObject)
     (otherFor m r .ready .redex) (getD (m .places) p 0)
 
-abbrev does : Setting → engine.Machine → ℕ → Ready → Act
+abbrev does : Setting → engine.EngineState → ℕ → Ready → Act
 does setting m p r = actOf setting (m .tally .counts) (headFor m p r) (getD (m .cells) (cellNumber r) noCell) (getD (m .objects) (objectOf r) noObject)
     (otherFor m r)
 
-module _ {b : List ℕ} {m : engine.Machine} {s : machine.State} {p : ℕ} (mover : Mover b m s p) where
+module _ {b : List ℕ} {m : engine.EngineState} {s : machine.State} {p : ℕ} (mover : Mover b m s p) where
   open Mover mover using (thread as t, there)
   open Headed (mover .headed) using (stack as S)
 
@@ -106,7 +106,8 @@ meets-more sight.Lacking p r A Z Z′ f h = h
 meets-more (sight.Blocked x) p r A Z Z′ f h = h
 
 -- WHAT A LOOK SAYS IS WHAT THE THREAD CAN DO, AND WHERE IT IS READY WHAT THE CODE DOES IS ITS MOVE
-pub looks : (b : List ℕ) → refusal b ≡ none → (m : engine.Machine) (s : machine.State) → Related b m s → Reached (tableOf b) (programOf b) s → (p : ℕ) → p < 8
+pub looks : (b : List ℕ) → refusal b ≡ none → (m : engine.EngineState) (s : machine.State) → Related b m s → Reached (tableOf b) (programOf b) s →
+    (p : ℕ) → p < 8
     → p < m .tally .counts .threads
     → MeetsBy (lookMet (settingOf b) (met m p)) p (headAt (m .heads) p .ready) (machine.attempt (tableOf b) s p) (Ahead b m s p)
 looks b ok m s rel reach p small here =

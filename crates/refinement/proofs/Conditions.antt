@@ -18,7 +18,7 @@ use Rattle.plan_packed.specs.inner.Operands.{firstOf, secondOf}
 use Rattle.run_term_words.specs.inner.Words.{wordAt}
 use Rattle.run_frames.specs.inner.Frames.{framed}
 use Rattle.run_frames.specs.inner.Going.{goTruth}
-use Rattle.run_refocusing_step.specs.inner.Down.{runConditionBy, runConditionOf, listedOf, wantedOf}
+use Rattle.run_refocusing_step.specs.inner.Down.{openConditionBy, openConditionOf, listedOf, wantedOf}
 use Rattle.run_refocusing.specs.inner.Refocusing.{Stack}
 use Rattle.refinement.proofs.Meant.{slots, closed, IsCondition}
 use Rattle.refinement.proofs.Words.{Condition, condition-at}
@@ -50,8 +50,8 @@ module _ {b ws rs : List ℕ} {k : Stack} {base : ℕ} {S : List frames.Frame} (
   not-in i q (Condition.and r o _ _) = x ∙ enter-not (ordered b (c .right)) S t (slots e) q (rw o) (λ z. Option·none-ne-some true (rw o at z))
   not-in i q (Condition.equal r o _ _) = x ∙ enter-not (ordered b (c .right)) S t (slots e) q (rw o) (λ z. Option·none-ne-some true (rw o at z))
 
-  run-by : Condition b t word → Next b ws k base n X (wantedOf ws (listedOf ws rs (runConditionOf (wordAt ws t) e)) (length S))
-  unfolding runConditionOf runConditionBy
+  run-by : Condition b t word → Next b ws k base n X (wantedOf ws (listedOf ws rs (openConditionOf (wordAt ws t) e)) (length S))
+  unfolding openConditionOf openConditionBy
   run-by (Condition.truth p q) =
       rw p (stays c (goTruth 1) (w, omega arith, x ∙ enter-truth (ordered b (c .right)) S (closed t e) true (truth-in q))
       (omega (arith, s .0, c .right .few-terms)))
@@ -70,5 +70,5 @@ module _ {b ws rs : List ℕ} {k : Stack} {base : ℕ} {S : List frames.Frame} (
       (plain-fine kind.Equal1 (secondOf word) 0 0 e (omega arith) (omega arith) (omega arith) (child j)) w (child i)
       (x ∙ enter-equal (ordered b (c .right)) S t (slots e) q) (less-one (c .right) l i) (less (c .right) l j))
 
-  pub run-condition-step : Next b ws k base n X (wantedOf ws (listedOf ws rs (runConditionOf (wordAt ws t) e)) (length S))
+  pub run-condition-step : Next b ws k base n X (wantedOf ws (listedOf ws rs (openConditionOf (wordAt ws t) e)) (length S))
   run-condition-step = run-by (condition-at b ws rs (c .right) (c .loaded) t (s .0) (s .1))

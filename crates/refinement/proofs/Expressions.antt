@@ -20,7 +20,7 @@ use Rattle.plan_packed.specs.inner.Operands.{maskBits}
 use Rattle.run_term_words.specs.inner.Words.{wordAt, valueBy, valueOf}
 use Rattle.run_frames.specs.inner.Frames.{framed, letFrame}
 use Rattle.run_frames.specs.inner.Going.{readyOf, goAt, goValue}
-use Rattle.run_refocusing_step.specs.inner.Down.{signalBy, signalOf, simpleBy, simpleOf, runBy, runOf, listedOf, wantOf, wantedOf}
+use Rattle.run_refocusing_step.specs.inner.Down.{signalBy, signalOf, simpleBy, simpleOf, openExpressionBy, openExpressionOf, listedOf, wantOf, wantedOf}
 use Rattle.run_refocusing.specs.inner.Refocusing.{Stack}
 use Rattle.refinement.proofs.Meant.{signalMeant, slots, closed, IsExpression}
 use Rattle.refinement.proofs.SlotLaws.{none-bound, slot-below}
@@ -64,8 +64,8 @@ module _ {b ws rs : List ℕ} {k : Stack} {base : ℕ} {S : List frames.Frame} (
       w (child i) (x ∙ enter-signal (ordered b (c .right)) S t (slots e) q) (less-one (c .right) l i) one
 
   run-by : (valueOf ws e t < 32 → 2055 ≤ suc n) → Valued b ws t e → Expression b t word
-      → Next b ws k base n X (wantedOf ws (listedOf ws rs (runOf (wordAt ws t) e)) (length S))
-  unfolding runOf runBy simpleOf simpleBy signalOf signalBy
+      → Next b ws k base n X (wantedOf ws (listedOf ws rs (openExpressionOf (wordAt ws t) e)) (length S))
+  unfolding openExpressionOf openExpressionBy simpleOf simpleBy signalOf signalBy
   run-by m v (Expression.null p q) =
       let z = null-value ws t e p in
       let r : valueOf ws e t < 32 = omega arith in
@@ -120,5 +120,5 @@ module _ {b ws rs : List ℕ} {k : Stack} {base : ℕ} {S : List frames.Frame} (
   run-by m v (Expression.notify p q i) = rw p (signal-step 1 (omega arith) q i)
   run-by m v (Expression.notifyAll p q i) = rw p (signal-step 2 (omega arith) q i)
 
-  pub run-step : (valueOf ws e t < 32 → 2055 ≤ suc n) → Next b ws k base n X (wantedOf ws (listedOf ws rs (runOf (wordAt ws t) e)) (length S))
+  pub run-step : (valueOf ws e t < 32 → 2055 ≤ suc n) → Next b ws k base n X (wantedOf ws (listedOf ws rs (openExpressionOf (wordAt ws t) e)) (length S))
   run-step m = run-by m (valued b ws rs (c .right) (c .loaded) t e s) (expression-at b ws rs (c .right) (c .loaded) t (s .0) (s .1))

@@ -41,8 +41,8 @@ use Rattle.run_look.specs.inner.Look.{objectBy, fieldBy, hasOf, lookField}
 use Rattle.run_state.specs.inner.Acted.{entryOf, nothing, cellOf, countsOf, actedOf, heardOf}
 use Rattle.run_accesses.specs.inner.Accesses.{passedOf, actRead, actWrite}
 use Rattle.run_pick.specs.inner.Pick.{lackBy}
-use Rattle.run_engine.specs.inner.Machine as engine
-use Rattle.run_engine.specs.inner.Machine.{noCell, noObject, headAt}
+use Rattle.run_engine.specs.inner.Engine as engine
+use Rattle.run_engine.specs.inner.Engine.{noCell, noObject, headAt}
 use Rattle.refinement.proofs.States.{settingOf, cellMeant, CellFits, Kept, Headed, Related}
 use Rattle.refinement.proofs.Tests.{test-true, test-false}
 use Rattle.refinement.proofs.KeptLaws.{kept-changed, kept-past, kept-key, kept-store, kept-same}
@@ -50,8 +50,8 @@ use Rattle.refinement.proofs.Looks.{MeetsBy, volatile-bit, meant-value,
 use Rattle.refinement.proofs.Moves.{Mover, Acts}
 use Rattle.refinement.proofs.Moving.{headFor, unlearnt, gained, joined, joined-new, moved, object-there, written, attempts}
 
-module _ {b : List ℕ} {m : engine.Machine} {s : machine.State} {p : ℕ} (mover : Mover b m s p) where
-  open engine.Machine m using (cells as cs, objects as ts)
+module _ {b : List ℕ} {m : engine.EngineState} {s : machine.State} {p : ℕ} (mover : Mover b m s p) where
+  open engine.EngineState m using (cells as cs, objects as ts)
   open Mover mover using (thread as t, there, reached as reach)
   open Related (mover .related) using (kept as k)
   open Headed (mover .headed) using (stack as S, keys as known, keys-fit as fits)

@@ -21,7 +21,7 @@ use Rattle.run_state.specs.declared.Cell.{Cell}
 use Rattle.run_state.specs.declared.Object.{Object}
 use Rattle.run_state.specs.declared.Counts.{Counts}
 use Rattle.run_look.specs.inner.Look.{hasOf}
-use Rattle.run_engine.specs.inner.Machine.{noCell, noObject}
+use Rattle.run_engine.specs.inner.Engine.{noCell, noObject}
 use Rattle.refinement.proofs.States.{cellMeant, CellFits, memoryOf, numberOf, Kept}
 use Rattle.refinement.proofs.MemoryOf.{fresh-meant, memory-store, memory-past, memory-more}
 use Rattle.refinement.proofs.ThreadNumbers.{numbers-change, numbers-map}

@@ -1,6 +1,6 @@
 -- A record that the code writes is the record's three bytes, and the log area after a run has the run's records in it. Assumes nothing.
 use Prim.Native.Nat.{ℕ, suc, _+_, _*_, _/_, _%_, _≤_, _<_}
-use native.Mathlib.Nat.{mod-eq-of-lt, add-zero}
+use native.Mathlib.Nat.{add-zero}
 use native.Mathlib.Omega.{arith}
 use mathlib.Core.Path.{_≡_, refl, sym, ap, ap₂, _∙_}
 use mathlib.Core.Bool.{Bool, true, false, cond}
@@ -8,14 +8,16 @@ use mathlib.Core.List.{List, [], _∷_, _++_, append-assoc, append-nil}
 use mathlib.Core.Option.{Option, some, none}
 use lib.Dec.{eqb}
 use lib.ListN.{length, set, take, drop, length-append, length-set, take-append-drop}
-use lib.Seq.{length-take-le, take-at, drop-append-add, drop-drop, sets-eq}
+use lib.Seq.{length-take-le, take-at, drop-append-add, drop-drop}
 use borrow.Author.Tests.{eq-eqb, ne-eqb}
-use Rattle.log_records.specs.Record.{kindNumber, Record}
+use Rattle.log_records.specs.Record.{Record}
 use Rattle.log_records.specs.Packed.{packed, threeBytes, bytesOf}
 use Rattle.log_records.proofs.KindNumbers.{kind-number}
 use Rattle.rules.specs.Run.{logged}
 use Rattle.run_state.specs.declared.Entry.{Entry}
-use Rattle.run_tally.specs.inner.Tally.{wordOf, logPut, recordsAfter}
+use Rattle.log_packing.specs.inner.Packing.{wordOf}
+use Rattle.log_packing.proofs.Packing.{ColumnsOf, word-packed, put-bytes}
+use Rattle.run_tally.specs.inner.Tally.{logPut, recordsAfter}
 use Rattle.refinement.proofs.Tests.{test-true, test-false}
 use Rattle.refinement.proofs.Looks.{Written, Entered}
 
@@ -48,36 +50,27 @@ overlay-more l i t bs h =
 
 -- ---- a record
 
-word-packed : (p : ℕ) (e : Entry) (r : Record) → Written p e r → (wordOf p e ≡ packed r) × (wordOf p e < 16777216)
-unfolding packed
-word-packed p e r w =
-    let k = kind-number (r .kind) in
-    let kind : e .kind % 16 ≡ kindNumber (r .kind) = ap (λ (x : ℕ). x % 16) (w .kind) ∙ mod-eq-of-lt (omega (arith, k .1)) in
-    let thread : p % 8 ≡ r .thread = mod-eq-of-lt (w .thread-fits) ∙ w .thread in
-    let object : e .object % 32 ≡ r .object = mod-eq-of-lt (w .object-fits) ∙ w .object in
-    let field : e .field % 32 ≡ r .field = mod-eq-of-lt (w .field-fits) ∙ w .field in
-    let value : e .value % 32 ≡ r .value = mod-eq-of-lt (w .value-fits) ∙ w .value in
-    (omega arith, omega arith)
-
--- three stores
-put-three : (l : List ℕ) (i j k m x y z : ℕ) → i ≡ m → j ≡ suc m → k ≡ suc (suc m) → m + 3 ≤ length l
-    → set (set (set l i x) j y) k z ≡ take m l ++ (x ∷ y ∷ z ∷ []) ++ drop (m + 3) l
-put-three l i j k m x y z a b c h =
-    ap₂ (λ (i j : ℕ). set (set (set l i x) j y) k z) a b
-    ∙ ap (λ (k : ℕ). set (set (set l m x) (suc m) y) k z) c
-    ∙ sets-eq (x ∷ y ∷ z ∷ []) l m h
-
-first-byte : (w v : ℕ) → w ≡ v → w < 16777216 → w / 65536 % 256 ≡ v / 65536
-first-byte w v e h = omega arith
+-- the columns of an entry that is a record
+columns-of : (p : ℕ) (e : Entry) (r : Record) → Written p e r → ColumnsOf r (e .kind) p (e .object) (e .field) (e .value)
+columns-of p e r w = record {
+  kind = w .kind;
+  thread = w .thread;
+  object = w .object;
+  field = w .field;
+  value = w .value;
+  thread-fits = w .thread-fits;
+  object-fits = w .object-fits;
+  field-fits = w .field-fits;
+  value-fits = w .value-fits;
+}
 
 -- an entry that is a record is put as its three bytes
 put-record : (l : List ℕ) (n p : ℕ) (e : Entry) (r : Record) → Written p e r → 3 * n + 3 ≤ length l → logPut l n p e ≡ overlay l (3 * n) (threeBytes (packed r))
 unfolding logPut overlay threeBytes
 put-record l n p e r w h =
-    let q = word-packed p e r w in
+    let q = word-packed (columns-of p e r w) in
     test-false (eqb (e .kind) 0) l _ (ne-eqb (e .kind) 0 (λ z. let k = kind-number (r .kind) in let q = w .kind in omega arith))
-    ∙ put-three l (n * 3) (n * 3 + 1) (n * 3 + 2) (3 * n) _ _ _ (omega arith) (omega arith) (omega arith) h
-    ∙ ap₂ (λ (x v : ℕ). take (3 * n) l ++ (x ∷ v / 256 % 256 ∷ v % 256 ∷ []) ++ drop (3 * n + 3) l) (first-byte (wordOf p e) (packed r) (q .0) (q .1)) (q .0)
+    ∙ put-bytes l n _ (packed r) (q .0) (q .1) h
 
 pub put-none : (l : List ℕ) (n p : ℕ) (e : Entry) → e .kind ≡ 0 → (logPut l n p e ≡ l) × (recordsAfter n e ≡ n)
 unfolding logPut recordsAfter
@@ -115,7 +108,7 @@ put-last l n p e r w h = put-record l n p e r w h ∙ ap (overlay l (3 * n)) (sy
 
 pub log-length : (l : List ℕ) (n p : ℕ) (e : Entry) → length (logPut l n p e) ≡ length l
 unfolding logPut
-log-length l n p e = by (eqb (e .kind) 0) (wordOf p e / 65536 % 256) (wordOf p e / 256 % 256) (wordOf p e % 256)
+log-length l n p e = let w = wordOf (e .kind) p (e .object) (e .field) (e .value) in by (eqb (e .kind) 0) (w / 65536 % 256) (w / 256 % 256) (w % 256)
   where
     by : (t : Bool) (x y z : ℕ) → length (cond t l (set (set (set l (n * 3) x) (n * 3 + 1) y) (n * 3 + 2) z)) ≡ length l
     by true x y z = refl

@@ -43,7 +43,7 @@ use Rattle.run_look.specs.declared.Sight.the-variants as sight
 use Rattle.run_look.specs.inner.Look.{hasOf, objectOf}
 use Rattle.run_look.specs.inner.Look as look
 use Rattle.run_pick.specs.inner.Pick.{lackEntry}
-use Rattle.run_engine.specs.inner.Machine.{noCell, noObject}
+use Rattle.run_engine.specs.inner.Engine.{noCell, noObject}
 use Rattle.refinement.proofs.States.{cellMeant, CellFits, memoryOf, Kept}
 use Rattle.refinement.proofs.MemoryOf.{memory-cell, memory-mask}
 

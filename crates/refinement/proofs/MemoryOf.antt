@@ -18,7 +18,7 @@ use Rattle.run_state.specs.declared.Setting.{Setting}
 use Rattle.run_state.specs.declared.Cell.{Cell}
 use Rattle.run_state.specs.declared.Object.{Object}
 use Rattle.run_look.specs.inner.Look.{hasOf}
-use Rattle.run_engine.specs.inner.Machine.{noCell, noObject, cellFirst}
+use Rattle.run_engine.specs.inner.Engine.{noCell, noObject, cellFirst}
 use Rattle.refinement.proofs.States.{cellMeant, memoryOf}
 use Rattle.refinement.proofs.Tests.{test-true, test-false}
 

@@ -36,8 +36,8 @@ use Rattle.run_look.specs.declared.Sight.the-variants as sight
 use Rattle.run_look.specs.inner.Look.{objectBy, fieldBy, lookSynch}
 use Rattle.run_state.specs.inner.Acted.{entryOf, noEntry, nothing, cellOf, actedOf, heardOf}
 use Rattle.run_monitors.specs.inner.Monitors.{holdFrame, actSynch, actHold}
-use Rattle.run_engine.specs.inner.Machine as engine
-use Rattle.run_engine.specs.inner.Machine.{noCell, headAt}
+use Rattle.run_engine.specs.inner.Engine as engine
+use Rattle.run_engine.specs.inner.Engine.{noCell, headAt}
 use Rattle.refinement.proofs.Meant.{closed, IsExpression}
 use Rattle.refinement.proofs.States.{settingOf, cellMeant, CellFits, Kept, Headed, Related}
 use Rattle.refinement.proofs.Tests.{test-true, test-false}
@@ -46,8 +46,8 @@ use Rattle.refinement.proofs.Looks.{MeetsBy, monitor-bit, monitor-cell,
 use Rattle.refinement.proofs.Moves.{Mover, Acts}
 use Rattle.refinement.proofs.Moving.{headFor, unlearnt, gained, joined, joined-new, moved, plain, object-there, written, attempts}
 
-module _ {b : List ℕ} {m : engine.Machine} {s : machine.State} {p : ℕ} (mover : Mover b m s p) where
-  open engine.Machine m using (cells as cs, objects as ts)
+module _ {b : List ℕ} {m : engine.EngineState} {s : machine.State} {p : ℕ} (mover : Mover b m s p) where
+  open engine.EngineState m using (cells as cs, objects as ts)
   open Mover mover using (ok, thread as t, there, reached as reach)
   open Related (mover .related) using (kept as k)
   open Headed (mover .headed) using (stack as S, object as same, keys as known, keys-fit as fits)

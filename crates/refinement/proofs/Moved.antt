@@ -30,8 +30,8 @@ use Rattle.run_pick.specs.declared.Met.{Met}
 use Rattle.run_pick.specs.inner.Answer.{Move}
 use Rattle.run_pick.specs.inner.Pick.{noHead, forksOf, fullOf, moverOf, forkedOf, moveOf, refocusMover, forkedGo, refocusForked}
 use Rattle.run_queue.specs.inner.Queue.{afterOf}
-use Rattle.run_engine.specs.inner.Machine as engine
-use Rattle.run_engine.specs.inner.Machine.{headAt, cellNumber, after}
+use Rattle.run_engine.specs.inner.Engine as engine
+use Rattle.run_engine.specs.inner.Engine.{headAt, cellNumber, after}
 use Rattle.refinement.proofs.Meant.{WordsAndRoots, Sized, Refocuses}
 use Rattle.refinement.proofs.FrameLaws.{holds-same}
 use Rattle.refinement.proofs.Refocusing.{refocused}
@@ -60,7 +60,7 @@ forked-other : (x : Bool) (l : List Head) (i : ℕ) (y : Head) (q : ℕ) → (q 
 forked-other true l i y q e = getD-set-other l i q y noHead e
 forked-other false l i y q e = refl
 
-module _ {b ws rs : List ℕ} (loaded : WordsAndRoots b ws rs) {m : engine.Machine} {s : machine.State} {p : ℕ} (mover : Mover b m s p) {v : machine.Move}
+module _ {b ws rs : List ℕ} (loaded : WordsAndRoots b ws rs) {m : engine.EngineState} {s : machine.State} {p : ℕ} (mover : Mover b m s p) {v : machine.Move}
     (a : Acted)
     (D : Does mover (headAt (m .heads) p .ready) (cellNumber (headAt (m .heads) p .ready)) a v) where
   open Mover mover using (ok, related as rel, reached as reach, thread as t, there, headed as H)

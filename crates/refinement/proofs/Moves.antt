@@ -31,8 +31,8 @@ use Rattle.run_look.specs.inner.Look.{objectOf}
 use Rattle.run_pick.specs.declared.Met.{Met}
 use Rattle.run_pick.specs.inner.Pick.{actMet}
 use Rattle.run_queue.specs.inner.Queue.{afterOf}
-use Rattle.run_engine.specs.inner.Machine as engine
-use Rattle.run_engine.specs.inner.Machine.{headAt, cellNumber, metAt}
+use Rattle.run_engine.specs.inner.Engine as engine
+use Rattle.run_engine.specs.inner.Engine.{headAt, cellNumber, metAt}
 use Rattle.refinement.proofs.Meant.{Goes}
 use Rattle.refinement.proofs.Queues.{placesOf, Places}
 use Rattle.refinement.proofs.States.{settingOf, Kept, Headed, Related}
@@ -55,7 +55,7 @@ abbrev pub moverIn : frames.Found → Keys → ℕ → machine.Thread → machin
 moverIn F K l x = record { self = x .self; expression = F; keys = K; learnt = l; place = x .place }
 
 -- thread p is there, in a state s that a run of the accepted plan b has reached and that the engine's state m stands for
-pub record Mover (b : List ℕ) (m : engine.Machine) (s : machine.State) (p : ℕ) : Type 0 where
+pub record Mover (b : List ℕ) (m : engine.EngineState) (s : machine.State) (p : ℕ) : Type 0 where
   pub ok : refusal b ≡ none
   pub related : Related b m s
   pub reached : Reached (tableOf b) (programOf b) s
@@ -64,7 +64,7 @@ pub record Mover (b : List ℕ) (m : engine.Machine) (s : machine.State) (p : �
   pub there : getElem? (s .threads) p ≡ some thread
   pub headed : Headed b (m .stack) (p * 33) (headAt (m .heads) p) thread
 
-module _ {b : List ℕ} {m : engine.Machine} {s : machine.State} {p : ℕ} (mover : Mover b m s p) where
+module _ {b : List ℕ} {m : engine.EngineState} {s : machine.State} {p : ℕ} (mover : Mover b m s p) where
   -- the new thread, if the move is a fork
   abbrev pub ForkedBy : Ready → Option machine.Thread → Type 0
   ForkedBy r none = isRedex redex.Fork (r .redex) ≡ false
@@ -94,11 +94,11 @@ module _ {b : List ℕ} {m : engine.Machine} {s : machine.State} {p : ℕ} (move
   Acts r i (act.NoRoom R) v = playing.noRoomBefore s (v .rule) ≡ some (roomMeant R)
 
 -- what a pick of thread p meets
-abbrev pub met : engine.Machine → ℕ → Met
+abbrev pub met : engine.EngineState → ℕ → Met
 met m p = metAt (m .tally .counts) (m .heads) (m .cells) (m .objects) (m .places) p (cellNumber (headAt (m .heads) p .ready))
     (objectOf (headAt (m .heads) p .ready))
 
 -- thread p is there, and what the code does is its move v
-pub record Ahead (b : List ℕ) (m : engine.Machine) (s : machine.State) (p : ℕ) (v : machine.Move) : Type 0 where
+pub record Ahead (b : List ℕ) (m : engine.EngineState) (s : machine.State) (p : ℕ) (v : machine.Move) : Type 0 where
   pub mover : Mover b m s p
   pub acts : Acts mover (headAt (m .heads) p .ready) (cellNumber (headAt (m .heads) p .ready)) (actMet (settingOf b) (met m p)) v

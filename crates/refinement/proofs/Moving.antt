@@ -33,8 +33,8 @@ use Rattle.run_state.specs.declared.Counts.{Counts}
 use Rattle.run_state.specs.declared.Entry.{Entry}
 use Rattle.run_state.specs.inner.Acted.{entryOf, noEntry, nothing, actedOf}
 use Rattle.run_queue.specs.inner.Queue.{afterOf}
-use Rattle.run_engine.specs.inner.Machine as engine
-use Rattle.run_engine.specs.inner.Machine.{noCell, headAt}
+use Rattle.run_engine.specs.inner.Engine as engine
+use Rattle.run_engine.specs.inner.Engine.{noCell, headAt}
 use Rattle.refinement.proofs.Meant.{Goes}
 use Rattle.refinement.proofs.Queues.{placesOf, Places, after-quiet}
 use Rattle.refinement.proofs.States.{settingOf, Kept, Headed, Related}
@@ -48,7 +48,7 @@ abbrev knowing : Keys → ℕ → machine.Thread → machine.Thread
 knowing K l x = record { self = x .self; expression = x .expression; keys = K; learnt = l; place = x .place }
 
 -- thread p's head, were r its redex
-abbrev pub headFor : engine.Machine → ℕ → Ready → Head
+abbrev pub headFor : engine.EngineState → ℕ → Ready → Head
 headFor m p r = record {
   ready = r;
   depth = headAt (m .heads) p .depth;
@@ -58,8 +58,8 @@ headFor m p r = record {
       headAt (m .heads) p .learnt;
 }
 
-module _ {b : List ℕ} {m : engine.Machine} {s : machine.State} {p : ℕ} (mover : Mover b m s p) where
-  open engine.Machine m using (cells as cs, objects as ts)
+module _ {b : List ℕ} {m : engine.EngineState} {s : machine.State} {p : ℕ} (mover : Mover b m s p) where
+  open engine.EngineState m using (cells as cs, objects as ts)
   open Mover mover using (thread as t, there, small, reached as reach, headed)
   open Related (mover .related) using (kept as k)
   open Headed (mover .headed) using (stack as S, keys as known, keys-fit as fits)

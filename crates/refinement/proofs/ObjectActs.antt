@@ -46,9 +46,9 @@ use Rattle.run_look.specs.inner.Look.{objectBy, fieldBy, lookJoin}
 use Rattle.run_state.specs.inner.Acted.{entryOf, nothing, countsOf, heardOf}
 use Rattle.run_objects.specs.inner.Objects.{actNew, actFork, actJoin}
 use Rattle.run_queue.specs.inner.Queue.{afterOf}
-use Rattle.run_engine.specs.inner.Machine as engine
+use Rattle.run_engine.specs.inner.Engine as engine
 use Rattle.run_pick.specs.inner.Pick.{noHead}
-use Rattle.run_engine.specs.inner.Machine.{noCell, noObject, headAt}
+use Rattle.run_engine.specs.inner.Engine.{noCell, noObject, headAt}
 use Rattle.refinement.proofs.Meant.{closed, IsExpression}
 use Rattle.refinement.proofs.States.{settingOf, numberOf, Kept, Headed, Related}
 use Rattle.refinement.proofs.Tests.{test-true, test-false}
@@ -61,8 +61,8 @@ use Rattle.refinement.proofs.Moving.{attempts}
 use Rattle.refinement.proofs.Ended.{joinBy, Ends, ends}
 use Rattle.refinement.proofs.ChangeLaws.{change-agree, change-before}
 
-module _ {b : List ℕ} {m : engine.Machine} {s : machine.State} {p : ℕ} (mover : Mover b m s p) where
-  open engine.Machine m using (cells as cs, objects as ts, heads as l)
+module _ {b : List ℕ} {m : engine.EngineState} {s : machine.State} {p : ℕ} (mover : Mover b m s p) where
+  open engine.EngineState m using (cells as cs, objects as ts, heads as l)
   open Mover mover using (thread as t, there, small, reached as reach)
   open Related (mover .related) using (kept as k, each)
   open Headed (mover .headed) using (stack as S, keys as known, keys-fit as fits)

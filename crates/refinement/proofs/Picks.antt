@@ -33,8 +33,8 @@ use Rattle.run_pick.specs.declared.Met.{Met}
 use Rattle.run_pick.specs.inner.Answer.{PickAnswer, PickAnswer as answer}
 use Rattle.run_pick.specs.inner.Pick.{Picked, picked, noRoom, noHead, forksOf, fullOf, moveOf, refocusMover, startBy, refocusBy, makeBy, actMet, pickBy}
 use Rattle.run_pick.specs.inner.Pick.{lookMet, pickOf}
-use Rattle.run_engine.specs.inner.Machine as engine
-use Rattle.run_engine.specs.inner.Machine.{headAt, cellNumber, metBy, after, turnBy}
+use Rattle.run_engine.specs.inner.Engine as engine
+use Rattle.run_engine.specs.inner.Engine.{headAt, cellNumber, metBy, after, turnBy}
 use Rattle.refinement.proofs.Meant.{WordsAndRoots}
 use Rattle.refinement.proofs.States.{settingOf, Related}
 use Rattle.refinement.proofs.Looks.{Written, Entered, BlockedBy, MeetsBy, attempt-absent}
@@ -52,13 +52,13 @@ StoppedBy b s p stop.Race x = (y : Record) × (playing.step (tableOf b) s p ≡ 
 StoppedBy b s p (stop.NoRoom R) x = (playing.step (tableOf b) s p ≡ playing.noRoom (roomMeant R)) × (x .kind ≡ 0)
 
 -- what the code answers to a pick of thread p, leaving the frames k, is what the abstract machine answers
-abbrev pub AnsweredBy : List ℕ → engine.Machine → machine.State → ℕ → PickAnswer → Stack → Type 0
+abbrev pub AnsweredBy : List ℕ → engine.EngineState → machine.State → ℕ → PickAnswer → Stack → Type 0
 AnsweredBy b m s p answer.Passed k = (playing.step (tableOf b) s p ≡ playing.passed) × (k ≡ m .stack)
 AnsweredBy b m s p (answer.Moved v) k =
     (u : machine.Move) × (playing.step (tableOf b) s p ≡ playing.moved u) × Entered p (v .entry) (u .entry) × Related b (after m p v k) (u .state)
 AnsweredBy b m s p (answer.Stopped e x) k = StoppedBy b s p e x
 
-abbrev pub By : List ℕ → engine.Machine → machine.State → ℕ → Picked → Type 0
+abbrev pub By : List ℕ → engine.EngineState → machine.State → ℕ → Picked → Type 0
 By b m s p z = AnsweredBy b m s p (z .answer) (z .stack)
 
 -- a pick that is passed over
@@ -74,7 +74,7 @@ passed-by b s p block.Thread r h = ap (playing.answer s p) h
 passed-by b s p block.NotHeld r h = ap (playing.answer s p) h
 passed-by b s p block.NoRule r h = absurd h
 
-module _ {b ws rs : List ℕ} (loaded : WordsAndRoots b ws rs) {m : engine.Machine} {s : machine.State} {p : ℕ} (mover : Mover b m s p) {v : machine.Move}
+module _ {b ws rs : List ℕ} (loaded : WordsAndRoots b ws rs) {m : engine.EngineState} {s : machine.State} {p : ℕ} (mover : Mover b m s p) {v : machine.Move}
     (attempts : machine.attempt (tableOf b) s p ≡ machine.moves v) where
   abbrev r : Ready
   r = headAt (m .heads) p .ready
@@ -132,7 +132,7 @@ module _ {b ws rs : List ℕ} (loaded : WordsAndRoots b ws rs) {m : engine.Machi
 
 -- ---- a pick
 
-module _ (b ws rs : List ℕ) (ok : refusal b ≡ none) (loaded : WordsAndRoots b ws rs) (m : engine.Machine) (s : machine.State) (rel : Related b m s)
+module _ (b ws rs : List ℕ) (ok : refusal b ≡ none) (loaded : WordsAndRoots b ws rs) (m : engine.EngineState) (s : machine.State) (rel : Related b m s)
     (reach : Reached (tableOf b) (programOf b) s) (p : ℕ) (small : p < 8) where
   -- of a thread that is there
   met-by : (w : Sight) → MeetsBy w p (headAt (m .heads) p .ready) (machine.attempt (tableOf b) s p) (Ahead b m s p)

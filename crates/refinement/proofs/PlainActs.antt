@@ -28,16 +28,16 @@ use Rattle.run_frames.specs.inner.Going.{readyOf, goWant, goWantCondition}
 use Rattle.run_state.specs.declared.Counts.{Counts}
 use Rattle.run_look.specs.declared.Sight.the-variants as sight
 use Rattle.run_state.specs.inner.Acted.{noEntry, actedOf}
-use Rattle.run_engine.specs.inner.Machine as engine
-use Rattle.run_engine.specs.inner.Machine.{noCell, headAt}
+use Rattle.run_engine.specs.inner.Engine as engine
+use Rattle.run_engine.specs.inner.Engine.{noCell, headAt}
 use Rattle.refinement.proofs.Meant.{slots, closed, IsExpression, IsCondition, Goes, Unlogged}
 use Rattle.refinement.proofs.States.{Headed}
 use Rattle.refinement.proofs.Looks.{MeetsBy, attempt-condition}
 use Rattle.refinement.proofs.Moves.{Mover, Acts}
 use Rattle.refinement.proofs.Moving.{plain, attempts}
 
-module _ {b : List ℕ} {m : engine.Machine} {s : machine.State} {p : ℕ} (mover : Mover b m s p) where
-  open engine.Machine m using (cells as cs)
+module _ {b : List ℕ} {m : engine.EngineState} {s : machine.State} {p : ℕ} (mover : Mover b m s p) where
+  open engine.EngineState m using (cells as cs)
   open Mover mover using (ok, thread as t, there)
   open Headed (mover .headed) using (stack as S)
 

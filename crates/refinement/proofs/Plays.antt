@@ -16,7 +16,7 @@ use Rattle.log_records.specs.Record.{Record}
 use Rattle.log_records.specs.Packed.{bytesOf}
 use Rattle.rules.specs.Step as step
 use Rattle.rules.specs.Step.{forMonitor, forJoin, forNotify, missingField, notThread, notHeld}
-use Rattle.rules.specs.Run.{Stop, Status, Outcome, play, outcomeOf}
+use Rattle.rules.specs.Run.{Stop, Status, Outcome, play, outcomeOf, instances, log}
 use Rattle.rules.proofs.StateLaws.{there as present, outside}
 use Rattle.format.specs.Area.{overwrite}
 use Rattle.machine.specs.inner.Machine as machine
@@ -46,15 +46,15 @@ use Rattle.run_look.specs.inner.Look.{blockedOf, stateOf}
 use Rattle.run_pick.specs.inner.Answer.{Move, PickAnswer, PickAnswer as answer}
 use Rattle.run_pick.specs.inner.Pick.{Picked, lookMet}
 use Rattle.run_tally.specs.inner.Tally.{shownEntry}
-use Rattle.run_engine.specs.inner.Machine as engine
+use Rattle.run_engine.specs.inner.Engine as engine
 use Rattle.run_open_threads.specs.inner.Open.{absent}
-use Rattle.run_engine.specs.inner.Machine.{headAt, metBy, stateBy, threadBy, threadAt, threadsOf, stopped, stayed, after, turnBy, onAnswer, playOf, startOf}
+use Rattle.run_engine.specs.inner.Engine.{headAt, metBy, stateBy, threadBy, threadAt, threadsOf, stopped, stayed, after, turnBy, onAnswer, playOf, startOf}
 use Rattle.refinement.proofs.Meant.{WordsAndRoots}
 use Rattle.refinement.proofs.States.{settingOf, Related}
 use Rattle.refinement.proofs.Looks.{Written, Entered, BlockedBy, MeetsBy, attempt-absent}
 use Rattle.refinement.proofs.Moves.{roomMeant, met, Ahead}
 use Rattle.refinement.proofs.Acts.{looks}
-use Rattle.refinement.proofs.Shown.{shownIn, entered-shown, recordsBy, recordsFrom, records-log}
+use Rattle.refinement.proofs.Shown.{shownIn, entered-shown, recordsOf, records-log}
 use Rattle.refinement.proofs.Picks.{AnsweredBy, picks}
 use Rattle.refinement.proofs.Starts.{start-related}
 use Rattle.refinement.proofs.Logs.{overlay, no-records, put-logged, put-none, put-last, record-counts, log-length, count-grows}
@@ -106,7 +106,7 @@ cons-same : {A : Type 0} {x y : A} {xs ys : List A} → x ≡ y → xs ≡ ys �
 cons-same {A} e h = ap₂ {C = List A} (λ x xs. x ∷ xs) e h
 
 -- what the code says of its threads is what they can do
-statuses : (b : List ℕ) → refusal b ≡ none → (m : engine.Machine) (s : machine.State) → Related b m s → Reached (tableOf b) (programOf b) s
+statuses : (b : List ℕ) → refusal b ≡ none → (m : engine.EngineState) (s : machine.State) → Related b m s → Reached (tableOf b) (programOf b) s
     → map statusOf (threadsOf (settingOf b) (m .tally .counts) (m .heads) (m .cells) (m .objects) (m .places)) ≡ playing.statusesFrom (tableOf b) s 0 8
 unfolding threadsOf metBy threadBy playing.statusesFrom playing.status
 statuses b ok m s rel reach =
@@ -127,7 +127,7 @@ statuses b ok m s rel reach =
             (looks b ok m s rel reach p h (leb-false (m .tally .counts .threads) p e))
 
 -- what it says of their totals too
-totals : (b : List ℕ) (m : engine.Machine) (s : machine.State) → Related b m s → Reached (tableOf b) (programOf b) s
+totals : (b : List ℕ) (m : engine.EngineState) (s : machine.State) → Related b m s → Reached (tableOf b) (programOf b) s
     → map (λ (t : Thread). t .learnt) (threadsOf (settingOf b) (m .tally .counts) (m .heads) (m .cells) (m .objects) (m .places)) ≡ playing.totalsFrom s 0 8
 unfolding threadsOf metBy threadBy playing.totalsFrom playing.totalOf
 totals b m s rel reach =
@@ -157,15 +157,15 @@ stopMeant stop.End = Stop.end
 stopMeant stop.Race = Stop.race
 stopMeant (stop.NoRoom r) = Stop.noRoom (roomMeant r)
 
--- the play P, from i picks, n moves, k records and the area l on, is the run R, with the records L
-record PlaysAs (b : List ℕ) (i n k : ℕ) (l : List ℕ) (P : engine.Played) (R : playing.Run) (L : List Record) : Type 0 where
+-- the play P, from i picks, n moves, k records and the area l on, is the run R, with records for every move or for those that have one
+record PlaysAs (b : List ℕ) (every : Bool) (i n k : ℕ) (l : List ℕ) (P : engine.Played) (R : playing.Run) : Type 0 where
   stop : stopMeant (P .outcome .stop) ≡ R .stop
   picks : P .outcome .picks ≡ i + R .picks
-  moves : P .outcome .moves ≡ n + length (R .instances)
-  records : P .outcome .records ≡ k + length L
+  moves : P .outcome .moves ≡ n + length (instances R)
+  records : P .outcome .records ≡ k + length (recordsOf every R)
   threads : map statusOf (P .outcome .threads) ≡ playing.statusesFrom (tableOf b) (R .final) 0 8
   totals : map (λ (t : Thread). t .learnt) (P .outcome .threads) ≡ playing.totalsFrom (R .final) 0 8
-  area : P .area ≡ overlay l (3 * k) (bytesOf L)
+  area : P .area ≡ overlay l (3 * k) (bytesOf (recordsOf every R))
 
 -- the outcome that the code's answer means
 abbrev pub outcomeMeant : code-outcome.Outcome → Outcome
@@ -192,32 +192,24 @@ module _ (b ws rs : List ℕ) (ok : refusal b ≡ none) (loaded : WordsAndRoots 
   -- the rest of a play
   abbrev Rest : List ℕ → ℕ → Type 0
   Rest ps i =
-      (m : engine.Machine) (s : machine.State) → Related b m s → Reached (tableOf b) (programOf b) s → 3 * (m .tally .records + length ps) ≤ length (m .log)
-      → PlaysAs b i (m .tally .moves) (m .tally .records) (m .log) (playOf ws rs (settingOf b) m ps i) (playing.run (tableOf b) s ps)
-      (recordsFrom (m .every) (tableOf b) s ps)
+      (m : engine.EngineState) (s : machine.State) → Related b m s → Reached (tableOf b) (programOf b) s → 3 * (m .tally .records + length ps) ≤ length (m .log)
+      → PlaysAs b (m .every) i (m .tally .moves) (m .tally .records) (m .log) (playOf ws rs (settingOf b) m ps i) (playing.run (tableOf b) s ps)
 
-  module _ (m : engine.Machine) (s : machine.State) (rel : Related b m s) (reach : Reached (tableOf b) (programOf b) s) (p : ℕ) (small : p < 8) (ps : List ℕ)
-      (i : ℕ)
+  module _ (m : engine.EngineState) (s : machine.State) (rel : Related b m s) (reach : Reached (tableOf b) (programOf b) s) (p : ℕ) (small : p < 8)
+      (ps : List ℕ) (i : ℕ)
       (wide : 3 * (m .tally .records + suc (length ps)) ≤ length (m .log)) (rest : Rest ps (i + 1)) where
     abbrev goOn : machine.State → playing.Run
     goOn s = playing.run (tableOf b) s ps
 
-    -- the records after the pick, and with the pick's, by its answer
-    abbrev goOnWith : machine.State → List Record
-    goOnWith s = recordsFrom (m .every) (tableOf b) s ps
-
-    abbrev recorded : playing.PickAnswer → List Record
-    recorded a = recordsBy (m .every) s goOnWith p a
-
     -- the play and the run after the pick, by its answer
-    abbrev Plays : PickAnswer → Stack → playing.Run → List Record → Type 0
-    Plays z k R L =
-        PlaysAs b i (m .tally .moves) (m .tally .records) (m .log)
+    abbrev Plays : PickAnswer → Stack → playing.Run → Type 0
+    Plays z k R =
+        PlaysAs b (m .every) i (m .tally .moves) (m .tally .records) (m .log)
         (onAnswer z (playOf ws rs (settingOf b) (stayed m k) ps (i + 1)) (λ v. playOf ws rs (settingOf b) (after m p v k) ps (i + 1))
-        (λ e x. stopped (settingOf b) m p x e i)) R L
+        (λ e x. stopped (settingOf b) m p x e i)) R
 
-    passed-plays : (k : Stack) → k ≡ m .stack → Plays answer.Passed k (playing.resume s goOn playing.passed) (recorded playing.passed)
-    unfolding playing.resume playing.afterPass recordsBy
+    passed-plays : (k : Stack) → k ≡ m .stack → Plays answer.Passed k (playing.resume s p goOn playing.passed)
+    unfolding playing.resume playing.afterPass recordsOf instances
     passed-plays k e =
         let same : Related b (stayed m (m .stack)) s =
         record {
@@ -243,8 +235,8 @@ module _ (b ws rs : List ℕ) (ok : refusal b ≡ none) (loaded : WordsAndRoots 
 
     moved-plays : (v : Move) (k : Stack) (u : machine.Move) → playing.step (tableOf b) s p ≡ playing.moved u → Entered p (v .entry) (u .entry)
         → Related b (after m p v k) (u .state)
-        → Plays (answer.Moved v) k (playing.resume s goOn (playing.moved u)) (recorded (playing.moved u))
-    unfolding playing.resume playing.afterMove recordsBy
+        → Plays (answer.Moved v) k (playing.resume s p goOn (playing.moved u))
+    unfolding playing.resume playing.afterMove recordsOf instances
     moved-plays v k u e entered rel′ =
         let x : Entry = shownEntry (m .every) (v .entry) in
         let y : Option Record = shownIn (m .every) p (u .entry) in
@@ -252,7 +244,7 @@ module _ (b ws rs : List ℕ) (ok : refusal b ≡ none) (loaded : WordsAndRoots 
         let c = count-grows (m .tally .records) p x y shown in
         let w = log-length (m .log) (m .tally .records) p x in
         let r = rest (after m p v k) (u .state) rel′ (move-reached b ok s p u reach e) (omega arith) in
-        let q = put-logged (m .log) (m .tally .records) p x y (goOnWith (u .state)) shown (omega arith) in
+        let q = put-logged (m .log) (m .tally .records) p x y (recordsOf (m .every) (goOn (u .state))) shown (omega arith) in
         record {
           stop = r .stop;
           picks = (let q = r .picks in omega arith);
@@ -264,8 +256,8 @@ module _ (b ws rs : List ℕ) (ok : refusal b ≡ none) (loaded : WordsAndRoots 
         }
 
     race-plays : (x : Entry) (y : Record) (k : Stack) → Written p x y
-        → Plays (answer.Stopped stop.Race x) k (playing.resume s goOn (playing.race y)) (recorded (playing.race y))
-    unfolding playing.resume playing.stopped recordsBy
+        → Plays (answer.Stopped stop.Race x) k (playing.resume s p goOn (playing.race y))
+    unfolding playing.resume playing.stopped recordsOf instances
     race-plays x y k written = record {
       stop = refl;
       picks = omega arith;
@@ -277,9 +269,8 @@ module _ (b ws rs : List ℕ) (ok : refusal b ≡ none) (loaded : WordsAndRoots 
     }
 
     full-plays : (x : Entry) (R : NoRoom) (k : Stack) → x .kind ≡ 0
-        → Plays (answer.Stopped (stop.NoRoom R) x) k (playing.resume s goOn (playing.noRoom (roomMeant R)))
-        (recorded (playing.noRoom (roomMeant R)))
-    unfolding playing.resume playing.stopped recordsBy
+        → Plays (answer.Stopped (stop.NoRoom R) x) k (playing.resume s p goOn (playing.noRoom (roomMeant R)))
+    unfolding playing.resume playing.stopped recordsOf instances
     full-plays x R k none-written =
         let q = put-none (m .log) (m .tally .records) p x none-written in
         record {
@@ -294,30 +285,29 @@ module _ (b ws rs : List ℕ) (ok : refusal b ≡ none) (loaded : WordsAndRoots 
 
     -- one pick, and the rest
     answered-plays : (z : PickAnswer) (k : Stack) → AnsweredBy b m s p z k
-        → Plays z k (playing.resume s goOn (playing.step (tableOf b) s p)) (recorded (playing.step (tableOf b) s p))
+        → Plays z k (playing.resume s p goOn (playing.step (tableOf b) s p))
     answered-plays answer.Passed k (e, same) =
-        along (λ (a : playing.PickAnswer). Plays answer.Passed k (playing.resume s goOn a) (recorded a)) (sym e) (passed-plays k same)
+        along (λ (a : playing.PickAnswer). Plays answer.Passed k (playing.resume s p goOn a)) (sym e) (passed-plays k same)
     answered-plays (answer.Moved v) k (u, e, entered, rel′) =
-        along (λ (a : playing.PickAnswer). Plays (answer.Moved v) k (playing.resume s goOn a) (recorded a)) (sym e) (moved-plays v k u e entered rel′)
+        along (λ (a : playing.PickAnswer). Plays (answer.Moved v) k (playing.resume s p goOn a)) (sym e) (moved-plays v k u e entered rel′)
     answered-plays (answer.Stopped stop.End x) k h = absurd h
     answered-plays (answer.Stopped stop.Race x) k (y, e, written) =
-        along (λ (a : playing.PickAnswer). Plays (answer.Stopped stop.Race x) k (playing.resume s goOn a) (recorded a)) (sym e) (race-plays x y k written)
+        along (λ (a : playing.PickAnswer). Plays (answer.Stopped stop.Race x) k (playing.resume s p goOn a)) (sym e) (race-plays x y k written)
     answered-plays (answer.Stopped (stop.NoRoom R) x) k (e, none-written) =
-        along (λ (a : playing.PickAnswer). Plays (answer.Stopped (stop.NoRoom R) x) k (playing.resume s goOn a) (recorded a)) (sym e)
+        along (λ (a : playing.PickAnswer). Plays (answer.Stopped (stop.NoRoom R) x) k (playing.resume s p goOn a)) (sym e)
         (full-plays x R k none-written)
 
     abbrev turn : Picked
     turn = turnBy ws rs (settingOf b) m p
 
-    pick-plays : Plays (turn .answer) (turn .stack) (playing.resume s goOn (playing.step (tableOf b) s p)) (recorded (playing.step (tableOf b) s p))
+    pick-plays : Plays (turn .answer) (turn .stack) (playing.resume s p goOn (playing.step (tableOf b) s p))
     pick-plays = answered-plays (turn .answer) (turn .stack) (picks b ws rs ok loaded m s rel reach p small)
 
   -- THE CODE'S PLAY FROM A STATE IS THE ABSTRACT MACHINE'S RUN FROM WHAT IT STANDS FOR
-  plays : (ps : List ℕ) (i : ℕ) → Small ps → (m : engine.Machine) (s : machine.State) → Related b m s → Reached (tableOf b) (programOf b) s
+  plays : (ps : List ℕ) (i : ℕ) → Small ps → (m : engine.EngineState) (s : machine.State) → Related b m s → Reached (tableOf b) (programOf b) s
       → 3 * (m .tally .records + length ps) ≤ length (m .log)
-      → PlaysAs b i (m .tally .moves) (m .tally .records) (m .log) (playOf ws rs (settingOf b) m ps i) (playing.run (tableOf b) s ps)
-      (recordsFrom (m .every) (tableOf b) s ps)
-  unfolding playOf playing.run playing.stopped recordsFrom
+      → PlaysAs b (m .every) i (m .tally .moves) (m .tally .records) (m .log) (playOf ws rs (settingOf b) m ps i) (playing.run (tableOf b) s ps)
+  unfolding playOf playing.run playing.stopped recordsOf instances
   plays [] i small m s rel reach wide = record {
     stop = refl;
     picks = omega arith;
@@ -331,11 +321,10 @@ module _ (b ws rs : List ℕ) (ok : refusal b ≡ none) (loaded : WordsAndRoots 
       let low : p ≤ 7 = small 0 (omega arith) in
       along
       (λ (q : ℕ).
-      PlaysAs b i (m .tally .moves) (m .tally .records) (m .log)
+      PlaysAs b (m .every) i (m .tally .moves) (m .tally .records) (m .log)
       (onAnswer (turnBy ws rs (settingOf b) m q .answer) (playOf ws rs (settingOf b) (stayed m (turnBy ws rs (settingOf b) m q .stack)) ps (i + 1))
       (λ v. playOf ws rs (settingOf b) (after m q v (turnBy ws rs (settingOf b) m q .stack)) ps (i + 1)) (λ e x. stopped (settingOf b) m q x e i))
-      (playing.resume s (λ s. playing.run (tableOf b) s ps) (playing.step (tableOf b) s p))
-      (recordsBy (m .every) s (λ s. recordsFrom (m .every) (tableOf b) s ps) p (playing.step (tableOf b) s p)))
+      (playing.resume s p (λ s. playing.run (tableOf b) s ps) (playing.step (tableOf b) s p)))
       (sym (mod-eq-of-lt {m = 8} (omega arith)))
       (pick-plays m s rel reach p (omega arith) ps i wide (λ m s rel reach wide. plays ps (i + 1) (λ j h. small (suc j) (omega arith)) m s rel reach wide))
 
@@ -343,8 +332,7 @@ module _ (b ws rs : List ℕ) (ok : refusal b ≡ none) (loaded : WordsAndRoots 
 
   module _ (ps area : List ℕ) (small : Small ps) (wide : 3 * length ps ≤ length area) where
     from-start : (every : Bool)
-        → PlaysAs b 0 0 0 area (playOf ws rs (settingOf b) (startOf every rs area) ps 0) (playing.machineRun b ps)
-        (recordsFrom every (tableOf b) playing.start ps)
+        → PlaysAs b every 0 0 0 area (playOf ws rs (settingOf b) (startOf every rs area) ps 0) (playing.machineRun b ps)
     unfolding startOf playing.machineRun
     from-start every = plays ps 0 small (startOf every rs area) playing.start (start-related b ws rs ok loaded every area) (start-reached b ok) (let e =
         zero-add (length ps) in omega arith)
@@ -355,32 +343,28 @@ module _ (b ws rs : List ℕ) (ok : refusal b ≡ none) (loaded : WordsAndRoots 
 
     -- with records for every move or for those that have one: its stop, and the records
     pub plays-recorded : (every : Bool) → (stopMeant (playOf ws rs (settingOf b) (startOf every rs area) ps 0 .outcome .stop) ≡ playing.machineRun b ps .stop)
-        × (playOf ws rs (settingOf b) (startOf every rs area) ps 0 .outcome .records ≡ length (recordsFrom every (tableOf b) playing.start ps))
-        × (playOf ws rs (settingOf b) (startOf every rs area) ps 0 .area ≡ overwrite (bytesOf (recordsFrom every (tableOf b) playing.start ps)) area)
+        × (playOf ws rs (settingOf b) (startOf every rs area) ps 0 .outcome .records ≡ length (recordsOf every (playing.machineRun b ps)))
+        × (playOf ws rs (settingOf b) (startOf every rs area) ps 0 .area ≡ overwrite (bytesOf (recordsOf every (playing.machineRun b ps))) area)
     plays-recorded every =
         let r = from-start every in
-        let L = recordsFrom every (tableOf b) playing.start ps in
+        let L = recordsOf every (playing.machineRun b ps) in
         (r .stop, r .records ∙ zero-add (length L), r .area ∙ overlay-start (bytesOf L))
-
-    its-log : recordsFrom false (tableOf b) playing.start ps ≡ playing.machineRun b ps .log
-    unfolding playing.machineRun
-    its-log = records-log (tableOf b) ps playing.start
 
     -- THE CODE'S PLAY IS THE ABSTRACT MACHINE'S RUN
     plays-machine : (outcomeMeant (playOf ws rs (settingOf b) (startOf false rs area) ps 0 .outcome) ≡ playing.outcomeOf (tableOf b) (playing.machineRun b ps))
-        × (playOf ws rs (settingOf b) (startOf false rs area) ps 0 .area ≡ overwrite (bytesOf (playing.machineRun b ps .log)) area)
+        × (playOf ws rs (settingOf b) (startOf false rs area) ps 0 .area ≡ overwrite (bytesOf (log (playing.machineRun b ps))) area)
     unfolding playing.outcomeOf
     plays-machine =
         let r = from-start false in
         let x = plays-recorded false in
         let R = playing.machineRun b ps in (
-          outcome-same (r .stop) (r .picks ∙ zero-add (R .picks)) (r .moves ∙ zero-add (length (R .instances))) (x .1 ∙ ap length its-log) (r .threads)
+          outcome-same (r .stop) (r .picks ∙ zero-add (R .picks)) (r .moves ∙ zero-add (length (instances R))) (x .1 ∙ ap length (records-log R)) (r .threads)
               (r .totals),
-          x .2 ∙ ap (λ (L : List Record). overwrite (bytesOf L) area) its-log,
+          x .2 ∙ ap (λ (L : List Record). overwrite (bytesOf L) area) (records-log R),
         )
 
     -- AND SO THE DEFINED ONE
     pub plays-defined : (outcomeMeant (playOf ws rs (settingOf b) (startOf false rs area) ps 0 .outcome) ≡ outcomeOf (programOf b) (play (programOf b) ps))
-        × (playOf ws rs (settingOf b) (startOf false rs area) ps 0 .area ≡ overwrite (bytesOf (play (programOf b) ps .log)) area)
+        × (playOf ws rs (settingOf b) (startOf false rs area) ps 0 .area ≡ overwrite (bytesOf (log (play (programOf b) ps))) area)
     plays-defined =
         (plays-machine .0 ∙ sym (plays-outcome b ok ps), plays-machine .1 ∙ ap (λ (L : List Record). overwrite (bytesOf L) area) (sym (plays-log b ok ps)))

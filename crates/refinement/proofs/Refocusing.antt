@@ -14,8 +14,8 @@ use Rattle.machine.specs.inner.Frames as frames
 use Rattle.run_frames.specs.declared.refocusing.Stage.{Stage}
 use Rattle.run_frames.specs.declared.refocusing.Stage.the-variants as stage
 use Rattle.run_frames.specs.declared.refocusing.Refocusing.{Refocusing}
-use Rattle.run_refocusing_step.specs.inner.Down.{frameAt}
-use Rattle.run_refocusing.specs.inner.Refocusing.{Stack, ended, liveBy, stored, turnAt, topOf, refocusOf}
+use Rattle.run_refocusing_step.specs.inner.Down.{frameAt, topOf}
+use Rattle.run_refocusing.specs.inner.Refocusing.{Stack, ended, liveBy, stored, turnAt, refocusOf}
 use Rattle.run_refocusing.proofs.Turns
 use Rattle.run_refocusing_step.proofs.Depths.{step-in}
 use Rattle.refinement.proofs.Meant.{WordsAndRoots, Holds, Goes, GoesBy, Sized, FoundBy, Refocuses}

@@ -43,8 +43,8 @@ use Rattle.run_look.specs.inner.Look.{objectBy, fieldBy, lookSignal, lookWaitin
 use Rattle.run_state.specs.inner.Acted.{entryOf, noEntry, nothing, cellOf, actedOf, heardOf}
 use Rattle.run_monitors.specs.inner.Monitors.{actWait, actSignal, actWake}
 use Rattle.run_queue.specs.inner.Queue.{waitedOf, notifiedOf, allNotifiedOf, signalledOf, afterOf}
-use Rattle.run_engine.specs.inner.Machine as engine
-use Rattle.run_engine.specs.inner.Machine.{noCell, headAt}
+use Rattle.run_engine.specs.inner.Engine as engine
+use Rattle.run_engine.specs.inner.Engine.{noCell, headAt}
 use Rattle.refinement.proofs.Meant.{signalMeant}
 use Rattle.refinement.proofs.Queues.{placesOf, Places, place-there, waited, notified, all-notified}
 use Rattle.refinement.proofs.States.{cellMeant, CellFits, Headed, Related}
@@ -77,8 +77,8 @@ module _ (ws : List ℕ) (o j w environment p : ℕ) (ho : o < 32) where
   unfolding signalledOf
   after-notify-all e q = sym (after-signal ∙ test-false (eqb j 0) _ _ e ∙ test-false (eqb j 1) _ _ q)
 
-module _ {b : List ℕ} {m : engine.Machine} {s : machine.State} {p : ℕ} (mover : Mover b m s p) where
-  open engine.Machine m using (cells as cs, objects as ts)
+module _ {b : List ℕ} {m : engine.EngineState} {s : machine.State} {p : ℕ} (mover : Mover b m s p) where
+  open engine.EngineState m using (cells as cs, objects as ts)
   open Mover mover using (ok, thread as t, there, small, reached as reach)
   open Related (mover .related) using (kept as k, places-size, places)
   open Headed (mover .headed) using (stack as S, object as same, keys as known, keys-fit as fits)

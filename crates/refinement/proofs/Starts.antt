@@ -28,7 +28,7 @@ use Rattle.run_state.specs.declared.Setting.{Setting}
 use Rattle.run_state.specs.declared.Cell.{Cell}
 use Rattle.run_state.specs.declared.Object.{Object}
 use Rattle.run_state.specs.inner.Acted.{countsOf}
-use Rattle.run_engine.specs.inner.Machine.{noCell, noObject, headAt, headOf, cellFirst, startOf}
+use Rattle.run_engine.specs.inner.Engine.{noCell, noObject, headAt, headOf, cellFirst, startOf}
 use Rattle.refinement.proofs.Meant.{WordsAndRoots, IsExpression, Stands}
 use Rattle.refinement.proofs.SlotLaws.{none-bound}
 use Rattle.refinement.proofs.Queues.{placeMeant, placesOf, Places}

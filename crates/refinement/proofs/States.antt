@@ -23,8 +23,8 @@ use Rattle.run_state.specs.declared.Cell.{Cell}
 use Rattle.run_state.specs.declared.Object.{Object}
 use Rattle.run_state.specs.declared.Counts.{Counts}
 use Rattle.run_look.specs.inner.Look.{hasOf}
-use Rattle.run_engine.specs.inner.Machine as engine
-use Rattle.run_engine.specs.inner.Machine.{noCell, noObject, headAt, cellFirst}
+use Rattle.run_engine.specs.inner.Engine as engine
+use Rattle.run_engine.specs.inner.Engine.{noCell, noObject, headAt, cellFirst}
 use Rattle.refinement.proofs.Meant.{Holds, Stands, Sized}
 use Rattle.refinement.proofs.Queues.{placesOf, Places}
 
@@ -96,7 +96,7 @@ headed-elsewhere w H = record {
 }
 
 -- the engine's state m stands for s, on plan b
-pub record Related (b : List ℕ) (m : engine.Machine) (s : machine.State) : Type 0 where
+pub record Related (b : List ℕ) (m : engine.EngineState) (s : machine.State) : Type 0 where
   pub heads-size : length (m .heads) ≡ 16
   pub sized : Sized b (m .stack)
   pub kept : Kept (settingOf b) (m .cells) (m .objects) (m .tally .counts) s

@@ -17,8 +17,8 @@ use Rattle.run_frames.specs.declared.refocusing.Stage.{Stage}
 use Rattle.run_frames.specs.declared.refocusing.Stage.the-variants as stage
 use Rattle.run_frames.specs.declared.refocusing.Refocusing.{Refocusing}
 use Rattle.run_frames.specs.inner.Going.{readyOf, goAt, feedOf, feedConditionOf}
-use Rattle.run_refocusing_step.specs.inner.Down.{stayOf, backOf, backConditionOf, stepBy, stepOf, frameAt}
-use Rattle.run_refocusing.specs.inner.Refocusing.{Stack, liveBy, topOf}
+use Rattle.run_refocusing_step.specs.inner.Down.{stayOf, backOf, backConditionOf, stepBy, stepOf, frameAt, topOf}
+use Rattle.run_refocusing.specs.inner.Refocusing.{Stack, liveBy}
 use Rattle.refinement.proofs.Meant.{Goes, GoesBy}
 use Rattle.refinement.proofs.Fuel.{needs-most, Enough, EnoughBy, feed-enough, feed-condition-enough}
 use Rattle.refinement.proofs.Feeding.{feed-goes, feed-condition-goes}

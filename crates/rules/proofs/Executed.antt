@@ -16,7 +16,7 @@ use Rattle.rules.specs.Rules.{Rule, Moves}
 use Rattle.rules.specs.Step.{noRule, Move, AttemptOf, Attempt, attempt}
 use Rattle.rules.specs.Room.{Blocked, MONITOR-HELD, UNFINISHED, NO-FIELD-TO-READ, NO-FIELD-TO-WRITE, NO-THREAD, NOT-NOTIFIED, NOT-FREE, NOT-HELD}
 use Rattle.rules.specs.Room.{PassedOver, ABSENT, FINISHED, BLOCKED, Room, noRoomFor, PickAnswerOf, withinRoom, answer, step}
-use Rattle.rules.specs.Run.{Run, resume, run, play, stopped, afterPass, afterMove, outcomeOf}
+use Rattle.rules.specs.Run.{Run, resume, run, play, stopped, afterPass, afterMove, outcomeOf, instances, log}
 use Rattle.rules.specs.Execution.{Execution, ends, passes, lacks-key, no-room, moves, moveCount}
 use Rattle.rules.specs.NewKeys.{Unused}
 use Rattle.rules.specs.Executed.{Executed}
@@ -52,13 +52,13 @@ reachable-move g P s p I m = record {
 
 module _ (g : Program) (P : WellFormedProgram g) where
   admitted : (s : State) (p : ℕ) (ps : List ℕ) (m : Move) → Moves g s p (m .rule) (m .entry) (m .state) → Execution g (m .state) ps (run g (m .state) ps)
-      → (k : Option Room) → noRoomFor (m .rule) s p (m .state) ≡ k → Execution g s (p ∷ ps) (resume s (λ s′. run g s′ ps) (withinRoom m k))
+      → (k : Option Room) → noRoomFor (m .rule) s p (m .state) ≡ k → Execution g s (p ∷ ps) (resume s p (λ s′. run g s′ ps) (withinRoom m k))
   unfolding withinRoom resume
   admitted s p ps m h r none e = moves h e r
   admitted s p ps m h r (some k) e = no-room h e
 
   dealt : (s : State) (p : ℕ) (ps : List ℕ) (I : Reachable g s) (a : Attempt) → Described g s (I .one-key) p a → Ruled a
-      → ((s′ : State) → Reachable g s′ → Execution g s′ ps (run g s′ ps)) → Execution g s (p ∷ ps) (resume s (λ s′. run g s′ ps) (answer s p a))
+      → ((s′ : State) → Reachable g s′ → Execution g s′ ps (run g s′ ps)) → Execution g s (p ∷ ps) (resume s p (λ s′. run g s′ ps) (answer s p a))
   unfolding answer resume
   dealt s p ps I AttemptOf.absent h k ih = passes h (ih s I)
   dealt s p ps I (AttemptOf.finished v) h k ih = passes h (ih s I)
@@ -98,12 +98,12 @@ executes-run g (passes {s} {p} {ps} h x) = rw (complete-passed g s p h, over-pas
 executes-run g (lacks-key {s} {p} h) = rw (complete-lacks g s p h)
 executes-run g (no-room {s} {p = p} h e) = rw (complete g s p h, e)
 executes-run g (moves {s} {s′} {p} {ps} {r} {R} {e} h k x) =
-    rw (complete g s p h, k) (ap (afterMove (record { rule = R; entry = e; state = s′ })) (executes-run g x))
+    rw (complete g s p h, k) (ap (afterMove p (record { rule = R; entry = e; state = s′ })) (executes-run g x))
 
 -- ---- the move count is the number of rule instances
 
-pub moves-counted : {g : Program} {s : State} {ps : List ℕ} {r : Run} (x : Execution g s ps r) → length (r .instances) ≡ moveCount x
-unfolding moveCount stopped afterPass afterMove
+pub moves-counted : {g : Program} {s : State} {ps : List ℕ} {r : Run} (x : Execution g s ps r) → length (instances r) ≡ moveCount x
+unfolding moveCount instances stopped afterPass afterMove
 moves-counted ends = refl
 moves-counted (passes h x) = moves-counted x
 moves-counted (lacks-key h) = refl
@@ -133,7 +133,7 @@ unfolding play
 never-ruleless g P ps p h = along Ruled h (ruled g (run g start ps .final) (reachable-run g P start ps (reachable-start g P) .invariant) p)
 
 -- demand 2: outcome and log are those of an execution, each plain write of which stores a new key
-pub play-executed : (g : Program) → WellFormedProgram g → (ps : List ℕ) → Executed g ps (outcomeOf g (play g ps)) (play g ps .log)
+pub play-executed : (g : Program) → WellFormedProgram g → (ps : List ℕ) → Executed g ps (outcomeOf g (play g ps)) (log (play g ps))
 unfolding outcomeOf play
 play-executed g P ps =
     let x = play-executes g P ps in
@@ -176,5 +176,5 @@ plan-new-keys b h ps = reachable-run (programOf b) (well-formed b h) start ps (r
 
 -- demand 2 of every run of an accepted plan
 pub plan-executed : (b : List ℕ) → refusal b ≡ none → (ps : List ℕ)
-    → Executed (programOf b) ps (outcomeOf (programOf b) (play (programOf b) ps)) (play (programOf b) ps .log)
+    → Executed (programOf b) ps (outcomeOf (programOf b) (play (programOf b) ps)) (log (play (programOf b) ps))
 plan-executed b h ps = play-executed (programOf b) (well-formed b h) ps

@@ -20,7 +20,7 @@ use Rattle.log_records.specs.Record.{Record}
 use Rattle.rules.specs.Queue.{awake}
 use Rattle.rules.specs.State.{Cell, Thread, State, start, fresh, freshObject, lookup, monitor}
 use Rattle.rules.specs.Rules.{LACKS-READ, LACKS-WRITE, Lacks, LACKS}
-use Rattle.rules.specs.Run.{Run, logged, stopped, afterPass, afterMove, play}
+use Rattle.rules.specs.Run.{Run, logged, stopped, afterPass, afterMove, play, log}
 use Rattle.rules.specs.Execution.{Execution, ends, passes, lacks-key, no-room, moves}
 use Rattle.rules.proofs.KeyBridge.{keysOf}
 use Rattle.rules.proofs.Bridge.{Kept, bridge, tested}
@@ -88,25 +88,25 @@ turn-logged (some r) L H = refl
 
 module _ (g : Program) (P : WellFormedProgram g) where
   kept-execution : {s : State} {ps : List ℕ} {r : Run} (H : List Record) → Reachable g s → Kept g s H → Execution g s ps r
-      → Kept g (r .final) (reverseAux (r .log) H)
-  unfolding stopped afterPass afterMove
+      → Kept g (r .final) (reverseAux (log r) H)
+  unfolding log stopped afterPass afterMove
   kept-execution H I J ends = J
   kept-execution H I J (passes h x) = kept-execution H I J x
   kept-execution H I J (lacks-key {s} {p} h) = kept-lacks g s I p H J h
   kept-execution H I J (no-room h e) = J
   kept-execution H I J (moves {s} {p = p} {r = r} {e = e} h k x) =
-      along (Kept g (r .final)) (sym (turn-logged e (r .log) H))
+      along (Kept g (r .final)) (sym (turn-logged e (log r) H))
       (kept-execution (logged e H) (reachable-move g P s p I h) (bridge g s (I .invariant) p H J h) x)
 
   -- after any picks the sets are those of the log
-  pub kept-play : (ps : List ℕ) → Kept g (play g ps .final) (reverse (play g ps .log))
+  pub kept-play : (ps : List ℕ) → Kept g (play g ps .final) (reverse (log (play g ps)))
   kept-play ps = kept-execution [] (reachable-start g P) (kept-start g) (play-executes g P ps)
 
   -- after any picks a present thread's set holds key 0 and the keys of just those plain writes in the log that would have a chain to a `new` record of
   -- this thread, were one put at the log's end (document 02, E9)
   pub every-set-of-runs : (ps : List ℕ) (p : ℕ) (t : Thread) → getElem? (play g ps .final .threads) p ≡ some t
-      → (k : ℕ) → T (holds (t .keys) k) ↔ ((k ≡ 0) ⊎ WouldReach (g .version) (play g ps .log) p k)
+      → (k : ℕ) → T (holds (t .keys) k) ↔ ((k ≡ 0) ⊎ WouldReach (g .version) (log (play g ps)) p k)
   every-set-of-runs ps p t h k =
       let J = kept-play ps in
-      along (λ (b : Bool). T b ↔ ((k ≡ 0) ⊎ WouldReach (g .version) (play g ps .log) p k)) (J .agrees .knows p t h k)
-      (every-set (g .version) (play g ps .log) (J .legal) p k (J .agrees .present p t h))
+      along (λ (b : Bool). T b ↔ ((k ≡ 0) ⊎ WouldReach (g .version) (log (play g ps)) p k)) (J .agrees .knows p t h k)
+      (every-set (g .version) (log (play g ps)) (J .legal) p k (J .agrees .present p t h))

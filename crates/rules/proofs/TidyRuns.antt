@@ -18,7 +18,7 @@ use Rattle.rules.specs.Rules.{Rule, passedOn, LacksHere, LACKS-READ, LAC
 use Rattle.rules.specs.Rules.{E-WRITE, E-READV, E-WRITEV, E-FORK, E-JOIN, E-RE-ENTER, E-ACQUIRE, E-RELEASE, E-WAIT, E-WAKE, E-NOTIFY, E-NOTIFYALL}
 use Rattle.rules.specs.Rules.{Moves, EVAL, EVALᶜ}
 use Rattle.rules.specs.Room.{Room, noRoomBefore, noRoomAfter, noRoomFor}
-use Rattle.rules.specs.Run.{Run, logged, stopped, afterPass, afterMove, play}
+use Rattle.rules.specs.Run.{Run, logged, stopped, afterPass, afterMove, play, log}
 use Rattle.plan_packed.proofs.WellFormed.{WellFormedProgram}
 use Rattle.log_records.proofs.Tidy.{Tidy, AllTidy}
 use Rattle.rules.proofs.Placed.{Good}
@@ -247,11 +247,11 @@ longer (some r) L = omega arith
 -- the room left, the records, and their number
 pub record TidyRun (ps : List ℕ) (r : Run) : Type 0 where
   pub roomy : Roomy (r .final)
-  pub all-tidy : AllTidy (r .log)
-  pub few : length (r .log) ≤ length ps
+  pub all-tidy : AllTidy (log r)
+  pub few : length (log r) ≤ length ps
 
 tidy-execution : (g : Program) → WellFormedProgram g → {s : State} {ps : List ℕ} {r : Run} → Reachable g s → Roomy s → Execution g s ps r → TidyRun ps r
-unfolding stopped afterPass afterMove
+unfolding log stopped afterPass afterMove
 tidy-execution g P I z ends = record { roomy = z; all-tidy = tt; few = omega arith }
 tidy-execution g P I z (passes h x) = let d = tidy-execution g P I z x in record { roomy = d .roomy; all-tidy = d .all-tidy; few = omega arith }
 tidy-execution g P I z (lacks-key {s} {p} h) = record { roomy = z; all-tidy = (tidy-lacking g s (I .invariant) z p h, tt); few = omega arith }
@@ -259,7 +259,7 @@ tidy-execution g P I z (no-room h e) = record { roomy = z; all-tidy = tt; few = 
 tidy-execution g P I z (moves {s} {p = p} {r = r} {e = e} h k x) =
     let n = tidy-move g s (I .invariant) z p h k in
     let d = tidy-execution g P (reachable-move g P s p I h) (n .0) x in
-    record { roomy = d .roomy; all-tidy = tidy-logged e (r .log) (n .1) (d .all-tidy); few = omega (arith, longer e (r .log)) }
+    record { roomy = d .roomy; all-tidy = tidy-logged e (log r) (n .1) (d .all-tidy); few = omega (arith, longer e (log r)) }
 
 -- every run's records are tidy, and there are no more of them than picks
 pub tidy-play : (g : Program) → WellFormedProgram g → (ps : List ℕ) → TidyRun ps (play g ps)

@@ -2,6 +2,7 @@
 use Prim.Native.Nat.{ℕ, _*_}
 use mathlib.Core.List.{List}
 use lib.ListN.{length, replicate, take}
+use Rattle.rules.specs.Run.{log}
 use Rattle.rules.specs.Play.{Played, runOf, played, areaAfter}
 use Rattle.rules.specs.ShotList.{Expected, Shot}
 
@@ -16,9 +17,9 @@ written plan picks records = take (3 * records) (areaAfter plan picks (areaFor p
 
 -- what comes of a plan and picks
 unfoldable pub observedOf : List ℕ → List ℕ → Played → Expected
-unfolding runOf written
+unfolding runOf log written
 observedOf plan picks (Played.refused r) = Expected.refused (r .number) (r .place)
-observedOf plan picks (Played.ran o) = Expected.ran o (runOf plan picks .log) (written plan picks (o .records))
+observedOf plan picks (Played.ran o) = Expected.ran o (log (runOf plan picks)) (written plan picks (o .records))
 
 -- what comes of a case
 unfoldable pub observed : Shot → Expected

@@ -10,7 +10,7 @@ use Rattle.format.specs.Area.{overwrite}
 use Rattle.plan_packed.specs.Trees.{programOf}
 use Rattle.plan_packed.specs.Check.{checks}
 use Rattle.log_records.specs.Packed.{bytesOf}
-use Rattle.rules.specs.Run.{Run, play, Outcome, outcomeOf}
+use Rattle.rules.specs.Run.{Run, play, Outcome, outcomeOf, log}
 
 -- ---- 8: "over 4,096 picks"
 
@@ -76,9 +76,9 @@ played plan schedule area = playedBy plan schedule (playRefusal plan schedule ar
 
 -- "no area changes" where the play is refused; "After a run the log area begins with the records; its other bytes keep their values."
 unfoldable pub areaBy : List ℕ → List ℕ → List ℕ → Option Refusal → List ℕ
-unfolding runOf bytesOf overwrite
+unfolding runOf log bytesOf overwrite
 areaBy plan schedule area (some r) = area
-areaBy plan schedule area none = overwrite (bytesOf (runOf plan schedule .log)) area
+areaBy plan schedule area none = overwrite (bytesOf (log (runOf plan schedule))) area
 
 -- the whole log area after a play
 unfoldable pub areaAfter : List ℕ → List ℕ → List ℕ → List ℕ

@@ -1,6 +1,6 @@
 -- A run over a list of picks, and its outcome (document 01, "How a thread moves"). Assumes nothing.
 use Prim.Native.Nat.{ℕ, zero, suc}
-use mathlib.Core.List.{List, [], _∷_}
+use mathlib.Core.List.{List, [], _∷_, map, foldr}
 use mathlib.Core.Option.{Option, some, none}
 use lib.ListN.{length, getElem?}
 use Rattle.plan_packed.specs.Syntax.{Program}
@@ -16,12 +16,19 @@ pub data Stop : Type 0 where
   race : Stop
   noRoom : Room → Stop
 
--- a run: how it ended, the picks dealt with before the end or stop, a rule instance for each move, the log, the last state
+-- a move as a run keeps it: its thread, its rule ("one rule to each move"), and its record if it leaves one
+pub record MadeMove : Type 0 where
+  pub thread : ℕ
+  pub rule : Rule
+  pub entry : Option Record
+
+-- a run: how it ended, the picks dealt with before the end or stop, the moves made, the record of the access that lacked its key if that stopped it, and
+-- the last state
 pub record RunOf (F : Form) : Type 0 where
   pub stop : Stop
   pub picks : ℕ
-  pub instances : List Rule
-  pub log : List Record
+  pub moves : List MadeMove
+  pub lacked : Option Record
   pub final : StateOf F
 
 -- a run by the rules
@@ -34,33 +41,46 @@ logged none L = L
 logged (some r) L = r ∷ L
 
 module _ {F : Form} where
+  -- the log of a run: the records of its moves, then that of the access that lacked its key: "Kinds 10 and 11 come only last."
+  unfoldable pub log : RunOf F → List Record
+  unfolding logged
+  log r = foldr (λ (m : MadeMove) (L : List Record). logged (m .entry) L) (logged (r .lacked) []) (r .moves)
+
+  -- the rule instances of a run, one for each move
+  unfoldable pub instances : RunOf F → List Rule
+  instances r = map (λ (m : MadeMove). m .rule) (r .moves)
+
+  -- thread p's move as a run keeps it
+  unfoldable pub made : ℕ → MoveOf F → MadeMove
+  made p m = record { thread = p; rule = m .rule; entry = m .entry }
+
   -- a run after a pick that is passed over: one pick more "dealt with"
   unfoldable pub afterPass : RunOf F → RunOf F
-  afterPass r = record { stop = r .stop; picks = suc (r .picks); instances = r .instances; log = r .log; final = r .final }
+  afterPass r = record { stop = r .stop; picks = suc (r .picks); moves = r .moves; lacked = r .lacked; final = r .final }
 
-  -- a run after a move: one pick and one rule more, and the move's record before the others
-  unfoldable pub afterMove : MoveOf F → RunOf F → RunOf F
-  unfolding logged
-  afterMove m r = record { stop = r .stop; picks = suc (r .picks); instances = m .rule ∷ r .instances; log = logged (m .entry) (r .log); final = r .final }
+  -- a run after a move of thread p: one pick more, and the move before the others
+  unfoldable pub afterMove : ℕ → MoveOf F → RunOf F → RunOf F
+  unfolding made
+  afterMove p m r = record { stop = r .stop; picks = suc (r .picks); moves = made p m ∷ r .moves; lacked = r .lacked; final = r .final }
 
-  -- a run that ends here, with these records
-  unfoldable pub stopped : Stop → List Record → StateOf F → RunOf F
-  stopped e L s = record { stop = e; picks = 0; instances = []; log = L; final = s }
+  -- a run that ends here: how, and the record of the access that lacked its key if that stopped it
+  unfoldable pub stopped : Stop → Option Record → StateOf F → RunOf F
+  stopped e lacked s = record { stop = e; picks = 0; moves = []; lacked = lacked; final = s }
 
-  -- the run from a pick's answer in state s on, where k is the rest of the run: "each pick up to the stop, passed over or not, meets the state that the
-  -- pick before it left"; "Kinds 10 and 11 come only last."
-  unfoldable pub resume : StateOf F → (StateOf F → RunOf F) → PickAnswerOf F → RunOf F
+  -- the run from the answer to a pick of thread p in state s on, where k is the rest of the run: "each pick up to the stop, passed over or not, meets the
+  -- state that the pick before it left"
+  unfoldable pub resume : StateOf F → ℕ → (StateOf F → RunOf F) → PickAnswerOf F → RunOf F
   unfolding afterPass afterMove stopped
-  resume s k PickAnswerOf.passed = afterPass (k s)
-  resume s k (PickAnswerOf.race r) = stopped race (r ∷ []) s
-  resume s k (PickAnswerOf.noRoom w) = stopped (noRoom w) [] s
-  resume s k (PickAnswerOf.moved m) = afterMove m (k (m .state))
+  resume s p k PickAnswerOf.passed = afterPass (k s)
+  resume s p k (PickAnswerOf.race r) = stopped race (some r) s
+  resume s p k (PickAnswerOf.noRoom w) = stopped (noRoom w) none s
+  resume s p k (PickAnswerOf.moved m) = afterMove p m (k (m .state))
 
   -- the run of a list of picks from state s, where `step` answers a pick: "A schedule is one byte per pick, 0 to 7."
   unfoldable pub runBy : (StateOf F → ℕ → PickAnswerOf F) → StateOf F → List ℕ → RunOf F
   unfolding resume stopped
-  runBy step s [] = stopped end [] s
-  runBy step s (p ∷ ps) = resume s (λ s′. runBy step s′ ps) (step s p)
+  runBy step s [] = stopped end none s
+  runBy step s (p ∷ ps) = resume s p (λ s′. runBy step s′ ps) (step s p)
 
 -- the run by the rules of a program
 unfoldable pub run : Program → State → List ℕ → Run
@@ -123,12 +143,12 @@ pub record Outcome : Type 0 where
 
 -- the outcome of a run: "the moves made" are its rule instances, "the records written" those of its log; where `attempt` says what a thread can do
 unfoldable pub outcomeBy : {F : Form} → (StateOf F → ℕ → AttemptOf F) → RunOf F → Outcome
-unfolding statusesBy totalsFrom
+unfolding statusesBy totalsFrom instances log
 outcomeBy attempt r = record {
   stop = r .stop;
   picks = r .picks;
-  moves = length (r .instances);
-  records = length (r .log);
+  moves = length (instances r);
+  records = length (log r);
   threads = statusesBy attempt (r .final) 0 8;
   totals = totalsFrom (r .final) 0 8;
 }

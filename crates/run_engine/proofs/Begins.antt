@@ -1,15 +1,16 @@
--- The steps of a pick on the machine: how it begins, and what it comes to. Assumes nothing.
+-- The steps of a pick on the engine's state: how it begins, and what it comes to. Assumes nothing.
 use mathlib.Core.Path.{_≡_, refl, sym, ap, _∙_}
 use mathlib.Core.Bool.{true, false}
 use mathlib.Core.List.{List, [], _∷_}
 use Prim.Native.Nat.{ℕ, _+_, _%_, _≤_}
 use native.Mathlib.Omega.{arith}
 use lib.ListN.{getD}
-use types.Run.{OneOf}
+use types.Run.{OneOf, miss}
 use denote.Enum.Declared.{tagOf}
 use Rattle.run_frames.specs.declared.refocusing.Ready.{Ready}
 use Rattle.run_refocusing.specs.declared.Refocused.{Refocused}
-use Rattle.run_refocusing.specs.declared.Refocusings.{Refocusings}
+use Rattle.run_refocusing.specs.inner.Refocusing.{Ends}
+use Rattle.run_outcome.specs.declared.NoRoom.the-variants as room
 use Rattle.run_outcome.specs.declared.Stop.{Stop}
 use Rattle.run_state.specs.declared.Setting.{Setting}
 use Rattle.run_state.specs.declared.Head.{Head}
@@ -23,13 +24,12 @@ use Rattle.run_pick.proofs.Begun as begun-type
 use Rattle.run_pick.specs.declared.Met.{Met}
 use Rattle.run_pick.specs.declared.Begun.{Begun}
 use Rattle.run_pick.specs.declared.Begun.the-variants as begun
-use Rattle.run_pick.specs.declared.Reached.the-variants as reached
 use Rattle.run_pick.specs.inner.Answer.{Move, PickAnswer as answer}
-use Rattle.run_pick.specs.inner.Pick.{picked, refocusedHead, noHead, forksOf, beginOf, Came, reachOf}
+use Rattle.run_pick.specs.inner.Pick.{picked, noRoom, fullOf, refocusedHead, noHead, forksOf, beginOf, goOf, refocusingsFrom}
 use Rattle.run_pick.proofs.GoesOn.{no-signal}
 use Rattle.run_pick.proofs.Steps as steps
 use Rattle.run_queue.specs.inner.Queue.{afterOf}
-use Rattle.run_engine.specs.inner.Machine.{Machine, noCell, headAt, cellNumber, metBy, pickedBy}
+use Rattle.run_engine.specs.inner.Engine.{EngineState, noCell, headAt, cellNumber, metBy, pickedBy}
 
 -- what a move of thread h leaves that does a and refocuses at l, with y the thread that it makes
 abbrev pub leftBy : Head → Acted → Refocused → Head → Move
@@ -57,12 +57,19 @@ goneBy n h c l =
       forks = false;
     }
 
+-- a pick that neither moves nor stops
+pub neither : (z : Begun) → OneOf (0 ∷ 1 ∷ []) (tagOf begun-type.the-type z) → OneOf (0 ∷ 2 ∷ 3 ∷ []) (tagOf begun-type.the-type z) → z ≡ begun.Passed
+neither begun.Passed h k = refl
+neither (begun.Stopped e y) h k = absurd (miss (0 ∷ 2 ∷ 3 ∷ []) 1 tt k)
+neither (begun.Went g) h k = absurd (miss (0 ∷ 1 ∷ []) 2 tt h)
+neither (begun.Acted a) h k = absurd (miss (0 ∷ 1 ∷ []) 3 tt h)
+
 -- only a signal changes the queues
 pub queues-left : (qs : List ℕ) (r : Ready) (p : ℕ) → goesOnBy (r .redex) ≡ true → qs ≡ afterOf qs r p
 unfolding afterOf
 queues-left qs r p e = rw (no-signal (r .redex) e)
 
-module _ (ws rs : List ℕ) (g : Setting) (m : Machine) (p : ℕ) where
+module _ (ws rs : List ℕ) (g : Setting) (m : EngineState) (p : ℕ) where
   abbrev x : Met
   x = metBy (m .tally .counts) (m .heads) (m .cells) (m .objects) (m .places) p
 
@@ -74,48 +81,50 @@ module _ (ws rs : List ℕ) (g : Setting) (m : Machine) (p : ℕ) where
   unfolding beginOf metBy
   begins-on {b} e q = q ∙ rw e
 
-  module _ (b : Begun) (begins : b ≡ beginOf g (metBy (m .tally .counts) (m .heads) (m .cells) (m .objects) (m .places) p)) (c : Came)
-      (comes : c ≡ reachOf ws rs (m .tally .counts) (headAt (m .heads) p) p b (m .stack)) where
-    comes-so : c ≡ reachOf ws rs (x .counts) (x .head) (x .thread) b (m .stack)
-    unfolding metBy
-    comes-so = comes
+  module _ (b : Begun) (begins : b ≡ beginOf g (metBy (m .tally .counts) (m .heads) (m .cells) (m .objects) (m .places) p)) where
+    pub passes : b ≡ begun.Passed → picked (m .stack) answer.Passed ≡ pickedBy ws rs g m p
+    passes z = steps.passes ws rs g x (m .stack) b begins z
 
-    pub passes : c .reached ≡ reached.Passed → picked (c .stack) answer.Passed ≡ pickedBy ws rs g m p
-    passes z = steps.passes ws rs g x (m .stack) c b begins comes-so z
+    pub stops : {s : Stop} {y : Entry} → b ≡ begun.Stopped s y → picked (m .stack) (answer.Stopped s y) ≡ pickedBy ws rs g m p
+    stops z = steps.stops ws rs g x (m .stack) b begins z
 
-    pub stops : {s : Stop} {y : Entry} → c .reached ≡ reached.Stopped s y → picked (c .stack) (answer.Stopped s y) ≡ pickedBy ws rs g m p
-    stops z = steps.stops ws rs g x (m .stack) c b begins comes-so z
-
-    module _ {a : Acted} (acts : b ≡ begun.Acted a) {l : Refocusings} (refocuses : c .reached ≡ reached.Refocused l) where
-      pub moves : forksOf (headAt (m .heads) p) ≡ false → picked (c .stack) (answer.Moved (leftBy (headAt (m .heads) p) a (l .last) noHead)) ≡ pickedBy ws rs
-          g m p
+    module _ {e : Ends} (refocuses : e ≡ refocusingsFrom ws rs (m .tally .counts) (headAt (m .heads) p) p (goOf b) (m .stack)) where
+      pub full : OneOf (2 ∷ 3 ∷ []) (tagOf begun-type.the-type b) → fullOf (e .refocusings .last) ≡ true
+          → picked (e .stack) (noRoom room.Depth) ≡ pickedBy ws rs g m p
       unfolding metBy
-      moves n = rw n (steps.moves ws rs g x (m .stack) c b begins comes acts refocuses n)
+      full o f = steps.full ws rs g x (m .stack) b begins refocuses o f
 
-      pub forks : forksOf (headAt (m .heads) p) ≡ true
-          → picked (c .stack) (answer.Moved (leftBy (headAt (m .heads) p) a (l .before)
-          (refocusedHead (l .last) (m .tally .counts .objects) (headAt (m .heads) p .keys) 0)))
-          ≡ pickedBy ws rs g m p
-      unfolding metBy
-      forks n = rw n (steps.forks ws rs g x (m .stack) c b begins comes acts refocuses n)
+      module _ (room : fullOf (e .refocusings .last) ≡ false) where
+        module _ {a : Acted} (acts : b ≡ begun.Acted a) where
+          pub moves : forksOf (headAt (m .heads) p) ≡ false
+              → picked (e .stack) (answer.Moved (leftBy (headAt (m .heads) p) a (e .refocusings .last) noHead)) ≡ pickedBy ws rs g m p
+          unfolding metBy
+          moves n = rw n (steps.moves ws rs g x (m .stack) b begins refocuses room acts n)
 
-    module _ (other : OneOf (0 ∷ 1 ∷ 2 ∷ []) (tagOf begun-type.the-type b)) {l : Refocusings} (refocuses : c .reached ≡ reached.Refocused l) where
-      pub on : goesOnBy (headAt (m .heads) p .ready .redex) ≡ true
-      unfolding metBy
-      on = steps.on ws rs g x (m .stack) c b begins comes other refocuses
+          pub forks : forksOf (headAt (m .heads) p) ≡ true
+              → picked (e .stack) (answer.Moved (leftBy (headAt (m .heads) p) a (e .refocusings .before)
+              (refocusedHead (e .refocusings .last) (m .tally .counts .objects) (headAt (m .heads) p .keys) 0)))
+              ≡ pickedBy ws rs g m p
+          unfolding metBy
+          forks n = rw n (steps.forks ws rs g x (m .stack) b begins refocuses room acts n)
 
-      pub goes-on : picked (c .stack) (answer.Moved (goneBy (m .tally .counts) (headAt (m .heads) p)
-          (getD (m .cells) (cellNumber (headAt (m .heads) p .ready)) noCell) (l .last))) ≡ pickedBy ws rs g m p
-      unfolding metBy
-      goes-on =
-          let e : h .learnt % 256 ≡ h .learnt % 256 + 0 = omega arith in
-          ap (λ (n : ℕ). picked (c .stack) (answer.Moved (record {
-            mover = refocusedHead (l .last) (h .object) (h .keys) n;
-            forked = noHead;
-            cell = getD (m .cells) (cellNumber (h .ready)) noCell;
-            object = nothing;
-            counts = m .tally .counts;
-            entry = noEntry;
-            forks = false;
-          }))) e
-          ∙ steps.goes-on ws rs g x (m .stack) c b begins comes other refocuses
+        module _ (mover : OneOf (2 ∷ 3 ∷ []) (tagOf begun-type.the-type b)) (other : OneOf (0 ∷ 1 ∷ 2 ∷ []) (tagOf begun-type.the-type b)) where
+          pub on : goesOnBy (headAt (m .heads) p .ready .redex) ≡ true
+          unfolding metBy
+          on = steps.on ws rs g x (m .stack) b begins refocuses room mover other
+
+          pub goes-on : picked (e .stack) (answer.Moved (goneBy (m .tally .counts) (headAt (m .heads) p)
+              (getD (m .cells) (cellNumber (headAt (m .heads) p .ready)) noCell) (e .refocusings .last))) ≡ pickedBy ws rs g m p
+          unfolding metBy
+          goes-on =
+              let l : h .learnt % 256 ≡ h .learnt % 256 + 0 = omega arith in
+              ap (λ (n : ℕ). picked (e .stack) (answer.Moved (record {
+                mover = refocusedHead (e .refocusings .last) (h .object) (h .keys) n;
+                forked = noHead;
+                cell = getD (m .cells) (cellNumber (h .ready)) noCell;
+                object = nothing;
+                counts = m .tally .counts;
+                entry = noEntry;
+                forks = false;
+              }))) l
+              ∙ steps.goes-on ws rs g x (m .stack) b begins refocuses room mover other

@@ -18,7 +18,7 @@ use Rattle.run_look.specs.declared.Sight.the-variants as sight
 use Rattle.run_pick.specs.declared.Met.{Met}
 use Rattle.run_pick.specs.inner.Answer.{Move, PickAnswer, PickAnswer as answer}
 use Rattle.run_pick.specs.inner.Pick.{picked, noRoom, fullOf, forksOf, refocusForked, startBy, refocusBy, makeBy, actMet, pickBy, lookMet, pickOf}
-use Rattle.run_engine.specs.inner.Machine.{Machine, pickedBy}
+use Rattle.run_engine.specs.inner.Engine.{EngineState, pickedBy}
 use Rattle.run_open_threads.specs.inner.Open.{openAt, unstopped, openAfter}
 
 -- an answer that stops the run does not end it
@@ -55,7 +55,7 @@ module _ (ws rs : List ℕ) (setting : Setting) (x : Met) where
   pick-halts k = sight-halts (lookMet setting x) k
 
 -- thread p's pick stops the run: for a missing key or for room
-pub stop-halts : (ws rs : List ℕ) (setting : Setting) (m : Machine) (p : ℕ) (e : Stop) (y : Entry) → pickedBy ws rs setting m p .answer ≡ answer.Stopped e y
+pub stop-halts : (ws rs : List ℕ) (setting : Setting) (m : EngineState) (p : ℕ) (e : Stop) (y : Entry) → pickedBy ws rs setting m p .answer ≡ answer.Stopped e y
     → unstopped e ≡ false
 stop-halts ws rs setting m p e y h = not-true (unstopped e) (ap halts (sym h) ∙ pick-halts ws rs setting _ (m .stack))
 

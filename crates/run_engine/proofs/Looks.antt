@@ -15,7 +15,7 @@ use Rattle.run_state.specs.declared.Object.{Object}
 use Rattle.run_state.specs.declared.Counts.{Counts}
 use Rattle.run_pick.specs.declared.Met.{Met}
 use Rattle.run_pick.specs.inner.Pick.{noHead}
-use Rattle.run_engine.specs.inner.Machine.{noCell, noObject, headAt, Placed, metBy, threadBy, threadAt, threadsOf}
+use Rattle.run_engine.specs.inner.Engine.{noCell, noObject, headAt, Placed, metBy, threadBy, threadAt, threadsOf}
 
 module _ (n : Counts) (l : List Head) (cs : List Cell) (ts : List Object) (qs : List ℕ) where
   -- with the cell c, of the object at o

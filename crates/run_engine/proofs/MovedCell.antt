@@ -19,7 +19,7 @@ use Rattle.run_act.proofs.Unchanged.{cellAfter, leaves}
 use Rattle.run_pick.specs.declared.Met.{Met}
 use Rattle.run_pick.specs.inner.Answer.{Move, PickAnswer, PickAnswer as answer}
 use Rattle.run_pick.specs.inner.Pick.{picked, noRoom, fullOf, forksOf, refocusForked, startBy, refocusBy, makeBy, actMet, pickBy, lookMet, pickOf}
-use Rattle.run_engine.specs.inner.Machine.{Machine, headAt, cellNumber, noCell, metBy, pickedBy}
+use Rattle.run_engine.specs.inner.Engine.{EngineState, headAt, cellNumber, noCell, metBy, pickedBy}
 
 module _ (v : Move) (c : Cell) where
   moved-is : (u : Move) → u .cell ≡ c → answer.Moved u ≡ answer.Moved v → v .cell ≡ c
@@ -54,7 +54,7 @@ module _ (ws rs : List ℕ) (setting : Setting) (v : Move) where
   seen-is x sight.Lacking k n h = absurd (let z : _≡_ {A = ℕ} 0 1 = cc in omega arith)
   seen-is x (sight.Blocked b) k n h = absurd (let z : _≡_ {A = ℕ} 0 1 = cc in omega arith)
 
-  pub cell-unchanged : (m : Machine) (p : ℕ) → changesBy (headAt (m .heads) p .ready .redex) ≡ false → pickedBy ws rs setting m p .answer ≡ answer.Moved v
+  pub cell-unchanged : (m : EngineState) (p : ℕ) → changesBy (headAt (m .heads) p .ready .redex) ≡ false → pickedBy ws rs setting m p .answer ≡ answer.Moved v
       → v .cell ≡ getD (m .cells) (cellNumber (headAt (m .heads) p .ready)) noCell
   unfolding pickOf metBy
   cell-unchanged m p n h =

@@ -20,7 +20,7 @@ use Rattle.run_look.specs.declared.Sight.the-variants as sight
 use Rattle.run_pick.specs.declared.Met.{Met}
 use Rattle.run_pick.specs.inner.Answer.{Move, PickAnswer, PickAnswer as answer}
 use Rattle.run_pick.specs.inner.Pick.{Picked, picked, noRoom, fullOf, forksOf, refocusForked, startBy, refocusBy, makeBy, actMet, pickBy, lookMet, pickOf}
-use Rattle.run_engine.specs.inner.Machine.{Machine, stayed, pickedBy, turnBy, playOf}
+use Rattle.run_engine.specs.inner.Engine.{EngineState, stayed, pickedBy, turnBy, playOf}
 
 stopped-not : {z : PickAnswer} (r : NoRoom) → z ≡ noRoom r → z ≡ answer.Passed → ⊥
 stopped-not r e h = let z : _≡_ {A = ℕ} 0 1 = cc in omega arith
@@ -57,14 +57,14 @@ module _ (ws rs : List ℕ) (setting : Setting) where
   frames-kept x k h = seen x (lookMet setting x) k h
 
   -- thread t's pick would be passed over
-  abbrev pub Stands : Machine → ℕ → Type 0
+  abbrev pub Stands : EngineState → ℕ → Type 0
   Stands m t = turnBy ws rs setting m t ≡ picked (m .stack) answer.Passed
 
   -- each thread that is marked
-  abbrev pub Marked : Machine → List Bool → Type 0
+  abbrev pub Marked : EngineState → List Bool → Type 0
   Marked m marks = (t : ℕ) → getD marks t false ≡ true → Stands m t
 
-  module _ (m : Machine) where
+  module _ (m : EngineState) where
     pub none-marked : Marked m (replicate 8 false)
     none-marked t =
         let n : _≡_ {A = Bool} false true → Stands m t = λ h. absurd (let z : _≡_ {A = ℕ} 0 1 = cc in omega arith) in

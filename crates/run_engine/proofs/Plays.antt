@@ -5,8 +5,6 @@ use mathlib.Core.List.{List, [], _∷_}
 use Prim.Native.Nat.{ℕ, _+_, _%_, _<_, _≤_}
 use borrow.Author.Tests.{le-leb, lt-leb}
 use lib.ListN.{getD, set, replicate}
-use types.Run.{OneOf, miss}
-use denote.Enum.Declared.{tagOf}
 use Rattle.run_refocusing.specs.inner.Refocusing.{Stack}
 use Rattle.run_outcome.specs.declared.Stop.{Stop}
 use Rattle.run_state.specs.declared.Setting.{Setting}
@@ -16,24 +14,15 @@ use Rattle.run_state.specs.declared.Object.{Object}
 use Rattle.run_state.specs.declared.Entry.{Entry}
 use Rattle.run_tally.specs.declared.Tally.{Tally}
 use Rattle.run_tally.specs.inner.Tally.{shownEntry, tallyFirst, tallyPut, tallyMoved, logPut}
-use Rattle.run_pick.proofs.Reached as reached-type
-use Rattle.run_pick.specs.declared.Reached.{Reached}
-use Rattle.run_pick.specs.declared.Reached.the-variants as reached
 use Rattle.run_pick.specs.inner.Answer.{Move, PickAnswer, PickAnswer as answer}
 use Rattle.run_pick.specs.inner.Pick.{noHead, Picked}
 use Rattle.run_queue.specs.inner.Queue.{afterOf}
-use Rattle.run_engine.specs.inner.Machine.{Machine, Played, headAt, cellNumber, headOf, cellFirst, noObject, endOf, stopped, withForked, stayed, after}
-use Rattle.run_engine.specs.inner.Machine.{pickedBy}
-use Rattle.run_engine.specs.inner.Machine.{turnBy, onAnswer, startOf, playOf}
-
--- a pick that neither refocuses nor stops
-pub neither : (z : Reached) → OneOf (0 ∷ 1 ∷ []) (tagOf reached-type.the-type z) → OneOf (0 ∷ 2 ∷ []) (tagOf reached-type.the-type z) → z ≡ reached.Passed
-neither reached.Passed h k = refl
-neither (reached.Stopped e y) h k = absurd (miss (0 ∷ 2 ∷ []) 1 tt k)
-neither (reached.Refocused l) h k = absurd (miss (0 ∷ 1 ∷ []) 2 tt h)
+use Rattle.run_engine.specs.inner.Engine.{EngineState, Played, headAt, cellNumber, headOf, cellFirst, noObject, endOf, stopped, withForked, stayed, after}
+use Rattle.run_engine.specs.inner.Engine.{pickedBy}
+use Rattle.run_engine.specs.inner.Engine.{turnBy, onAnswer, startOf, playOf}
 
 module _ (ws rs : List ℕ) (setting : Setting) where
-  abbrev begun : Bool → Head → Head → List Cell → Object → Tally → List ℕ → Machine
+  abbrev begun : Bool → Head → Head → List Cell → Object → Tally → List ℕ → EngineState
   begun every n h cs t s l =
       record {
         heads = set (replicate 16 n) 0 h;
@@ -57,7 +46,7 @@ module _ (ws rs : List ℕ) (setting : Setting) where
       ∙ ap (λ (t : Object). playOf ws rs setting (begun every noHead (headOf (getD rs 0 0)) (replicate 1024 cellFirst) t s l) ps 0) qt
       ∙ ap (λ (s : Tally). playOf ws rs setting (begun every noHead (headOf (getD rs 0 0)) (replicate 1024 cellFirst) noObject s l) ps 0) qs
 
-  module _ (m : Machine) (p : ℕ) (ps : List ℕ) (i : ℕ) where
+  module _ (m : EngineState) (p : ℕ) (ps : List ℕ) (i : ℕ) where
     -- the pick of a thread that is not there
     pub absent-passed : m .tally .counts .threads ≤ p % 8 → playOf ws rs setting (stayed m (m .stack)) ps (i + 1) ≡ playOf ws rs setting m (p ∷ ps) i
     unfolding playOf turnBy
@@ -102,6 +91,10 @@ module _ {forks : Bool} (hs hs′ : List Head) (q p : ℕ) {h h′ : Head} (e : 
 
   pub heads-alone : (y : Head) → forks ≡ false → hs′ ≡ set hs p h → hs′ ≡ set (withForked forks hs q y) p h′
   heads-alone y k r = r ∙ rw (k, e)
+
+-- an object put at the same number
+pub object-put : (ts : List Object) (n k : ℕ) (t : Object) → n ≡ k → set ts n t ≡ set ts k t
+object-put ts n k t e = ap (λ (n : ℕ). set ts n t) e
 
 -- an end by the same numbers is the same end
 pub ends-as : (setting : Setting) (hs : List Head) (cs : List Cell) (ts : List Object) (qs : List ℕ) (e e′ : Stop) (i i′ : ℕ) (s s′ : Tally) (l l′ : List ℕ)

@@ -14,11 +14,11 @@ use Rattle.run_state.specs.declared.Object.{Object}
 use Rattle.run_tally.specs.declared.Tally.{Tally}
 use Rattle.run_engine.specs.declared.kept.Kept.{Kept}
 use Rattle.run_engine.specs.inner.Kept.{keepOf, restoreOf, keptFirst}
-use Rattle.run_engine.specs.inner.Machine.{noCell, Machine}
+use Rattle.run_engine.specs.inner.Engine.{noCell, EngineState}
 
--- the machine that keeps these cells
-abbrev pub machineOf : List Head → List Kept → List Object → List ℕ → Stack → Bool → Tally → List ℕ → Machine
-machineOf heads cells objects places stack every tally log =
+-- the state that keeps these cells
+abbrev pub engineOf : List Head → List Kept → List Object → List ℕ → Stack → Bool → Tally → List ℕ → EngineState
+engineOf heads cells objects places stack every tally log =
     record { heads = heads; cells = map restoreOf cells; objects = objects; places = places; stack = stack; every = every; tally = tally; log = log }
 
 -- the bit of key 0 turned over

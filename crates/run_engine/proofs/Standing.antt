@@ -14,9 +14,9 @@ use Rattle.run_state.specs.declared.Head.{Head}
 use Rattle.run_state.specs.declared.Object.{Object}
 use Rattle.run_tally.specs.declared.Tally.{Tally}
 use Rattle.run_engine.specs.declared.kept.Kept.{Kept}
-use Rattle.run_engine.specs.inner.Machine.{Played, startOf, playOf}
+use Rattle.run_engine.specs.inner.Engine.{Played, startOf, playOf}
 use Rattle.run_engine.proofs.PassedOver.{Marked}
-use Rattle.run_engine.proofs.Restored.{machineOf}
+use Rattle.run_engine.proofs.Restored.{engineOf}
 
 module _ (ws rs : List ℕ) (g : Setting) (every : Bool) (first : List ℕ) where
   -- the run of these picks from the start, with this log
@@ -30,12 +30,12 @@ module _ (ws rs : List ℕ) (g : Setting) (every : Bool) (first : List ℕ) wher
     pub few-records : tally .records ≤ i
     pub kept : length log ≡ length first
     pub goes : (qs : List ℕ)
-        → playOf ws rs g (machineOf heads cells objects places stack every tally log) qs i ≡ played (take i list ++ qs)
+        → playOf ws rs g (engineOf heads cells objects places stack every tally log) qs i ≡ played (take i list ++ qs)
     pub unstopped : halt ≡ stop.End
     pub eight : length places ≡ 8
     pub moves : moves-before ≡ played (take (i - 1) list) .outcome .moves
     pub records : records-before ≡ played (take (i - 1) list) .outcome .records
-    pub marked : Marked ws rs g (machineOf heads cells objects places stack every tally log) passed
+    pub marked : Marked ws rs g (engineOf heads cells objects places stack every tally log) passed
 
   -- the same in a list whose first picks are those
   pub in-list : {list : List ℕ} {i : ℕ} {log : List ℕ} {heads : List Head} {cells : List Kept} {objects : List Object} {places : List ℕ} {stack : Stack}

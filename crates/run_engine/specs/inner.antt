@@ -1,4 +1,4 @@
 -- What only inner contracts speak of: no reader of the entries' promises needs it. Assumes nothing.
 pub mod Kept
-pub mod Machine
+pub mod Engine
 pub mod Exploring

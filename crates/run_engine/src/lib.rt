@@ -3,23 +3,23 @@
 // present ones, and counts once it is counted.
 ghost use mathlib.Core.Path.{_≡_};
 ghost use Prim.Native.Nat.{_≤_};
-ghost use Rattle.run_engine.specs.inner.Machine.{Placed, headOf, noObject, threadBy, startOf};
+ghost use Rattle.run_engine.specs.inner.Engine.{Placed, headOf, noObject, threadBy, startOf};
 ghost use Rattle.run_state.specs.inner.Acted.{nothing};
 ghost use Rattle.run_engine.specs.inner.Exploring.{pickAt, Unseen, Explorable, ExploredOn};
 use run_frames::redex;
 use run_frames::refocusing;
 use run_keys::KeySet;
-use run_outcome::Outcome;
+use run_outcome::NoRoom;
 use run_outcome::Stop;
 use run_outcome::Thread;
 use run_outcome::ThreadState;
 use run_pick::Begun;
 use run_pick::Met;
-use run_pick::Reached;
 use run_state::Counts;
 use run_state::Head;
 use run_state::Object;
 use run_state::Setting;
+use run_tally::Ran;
 
 pub mod kept;
 
@@ -83,19 +83,7 @@ pub fn thread_of(setting: Setting, met: Met) -> Thread
     }
 }
 
-// How many moves and records a run had before the last pick that it met; none where it met no pick.
-pub struct Before {
-    pub moves: usize,
-    pub records: usize,
-}
-
-// What a run comes to.
-pub struct Ran {
-    pub outcome: Outcome,
-    pub before: Before,
-}
-
-// The same of a run that may go on behind the given picks, and how many picks it made, one that stopped it among them.
+// What a run comes to that may go on behind the given picks, and how many picks it made, one that stopped it among them.
 pub struct Explored {
     pub ran: Ran,
     pub made: usize,
@@ -186,12 +174,11 @@ pub fn explore(
                 };
                 begun = run_pick::begin(setting, met);
             }
-            let reached = run_pick::refocus(words, roots, &mut stack, counts, head, thread, begun);
-            let Reached::Refocused(refocusings) = reached else {
-                let Reached::Stopped {
+            let (Begun::Went(_) | Begun::Acted(_)) = begun else {
+                let Begun::Stopped {
                     stop: reason,
                     entry,
-                } = reached
+                } = begun
                 else {
                     passed[thread] = true;
                     continue;
@@ -201,14 +188,21 @@ pub fn explore(
                 dealt = i;
                 break;
             };
-            passed = [false; 8];
+            let go = run_pick::go_of(begun);
+            let refocusings = run_pick::refocus(words, roots, &mut stack, counts, head, thread, go);
             let last = refocusings.last;
+            if run_refocusing::full(last) {
+                stop = Stop::NoRoom(NoRoom::Depth);
+                dealt = i;
+                break;
+            }
+            passed = [false; 8];
             let mover = heads[thread];
             let Begun::Acted(acted) = begun else {
                 let none = run_pick::no_entry();
                 tally = run_tally::put_move(&mut *log, tally, every, thread, none);
                 heads[thread] = run_pick::gone(mover, last);
-                objects[counts.objects % 33] = no_object();
+                objects[run_pick::remainder(counts.objects, 33)] = no_object();
                 tally = run_tally::moved(tally, counts);
                 continue;
             };
@@ -217,7 +211,11 @@ pub fn explore(
             tally = run_tally::put_move(&mut *log, tally, every, thread, entry);
             if ready.redex == redex::FORK {
                 let refocused = refocusings.before;
-                heads[counts.threads % 9] = run_pick::forked(mover, counts.objects, last);
+                heads[run_pick::remainder(counts.threads, 9)] = run_pick::forked(
+                    mover,
+                    counts.objects,
+                    last,
+                );
                 heads[thread] = run_pick::moved(mover, acted, refocused);
             } else {
                 heads[thread] = run_pick::moved(mover, acted, last);
@@ -229,7 +227,7 @@ pub fn explore(
             }
             let made = acted.object;
             let counted = acted.counts;
-            objects[counts.objects % 33] = made;
+            objects[run_pick::remainder(counts.objects, 33)] = made;
             tally = run_tally::moved(tally, counted);
         }
         let counts = tally.counts;
@@ -264,20 +262,6 @@ pub fn explore(
         from = to;
         to += 1;
     }
-    let outcome = Outcome {
-        stop: stop,
-        picks: dealt,
-        moves: tally.moves,
-        records: tally.records,
-        threads: threads,
-    };
-    let before = Before {
-        moves: moves_before,
-        records: records_before,
-    };
-    let ran = Ran {
-        outcome: outcome,
-        before: before,
-    };
+    let ran = run_tally::result(stop, dealt, tally, moves_before, records_before, threads);
     Explored { ran: ran, made: to }
 }

@@ -1,4 +1,3 @@
-pub mod Reach
 pub mod GoesOn
 pub mod Answers
 pub mod Steps

@@ -7,7 +7,7 @@ ghost use mathlib.Core.Bool.{false};
 ghost use Rattle.run_act.specs.inner.Act.{goesOnBy, actPure};
 ghost use Rattle.run_state.specs.inner.Acted.{noEntry};
 ghost use Rattle.run_pick.specs.inner.Pick.{stoppedFor, lackEntry, refocusedHead, noHead, moverWay, forkedWay, begunBy, beginOf, goOf, refocusingsFrom};
-ghost use Rattle.run_pick.specs.inner.Pick.{reachedAt, reachOf, actMet};
+ghost use Rattle.run_pick.specs.inner.Pick.{actMet};
 ghost use Rattle.run_outcome.specs.declared.Stop.the-variants as stop;
 ghost use Rattle.run_pick.specs.declared.Begun.the-variants as begun;
 use log_records::kind;
@@ -50,13 +50,6 @@ pub enum Begun {
     Stopped { stop: Stop, entry: Entry },
     Went(Refocusing),
     Acted(Acted),
-}
-
-// How far a pick comes: it is passed over, stops the run with a last record, or has refocused.
-pub enum Reached {
-    Passed,
-    Stopped { stop: Stop, entry: Entry },
-    Refocused(Refocusings),
 }
 
 // No record.
@@ -192,6 +185,17 @@ pub fn begin(setting: Setting, met: Met) -> Begun
     }
 }
 
+// The remainder of a number by a limit: mostly the number is below it, and none is computed.
+pub fn remainder(number: usize, limit: usize) -> usize
+    requires { ⌜ 0 < limit ⌝ }
+    ensures { λ r. ⌜ r ≡ number % limit ⌝ }
+{
+    if number < limit {
+        return number;
+    }
+    number % limit
+}
+
 // From where the mover refocuses.
 fn mover_way(thread: usize, head: Head, from: Refocusing) -> Way
     requires { ⌜ thread < 8 ⌝ }
@@ -199,7 +203,7 @@ fn mover_way(thread: usize, head: Head, from: Refocusing) -> Way
 {
     Way {
         base: thread * 33,
-        depth: head.depth % 33,
+        depth: remainder(head.depth, 33),
         go: from,
     }
 }
@@ -211,43 +215,14 @@ fn forked_way(counts: Counts, head: Head) -> Way
     let ready = head.ready;
     let from = refocusing::run(ready.first, ready.environment);
     Way {
-        base: counts.threads % 9 * 33,
+        base: remainder(counts.threads, 9) * 33,
         depth: 0,
         go: from,
     }
 }
 
-// Refocuses the mover from here and, of a fork, the thread that it makes. One call of `run_refocusing` for both, so that it is compiled into its caller.
-fn refocus_from(
-    words: &[usize; 1024],
-    roots: &[usize; 32],
-    stack: &mut [usize; 891],
-    counts: Counts,
-    head: Head,
-    thread: usize,
-    from: Refocusing,
-) -> Reached
-    requires { ⌜ thread < 8 ⌝ }
-    ensures { λ r. ⌜ (record { stack = now (stack .exit); reached = r }) ≡ reachedAt
-        (refocusingsFrom (now (words .entry)) (now (roots .entry)) counts head thread from (now (stack .entry))) ⌝ }
-{
-    let ready = head.ready;
-    let forks = ready.redex == redex::FORK;
-    let mover = mover_way(thread, head, from);
-    let forked = forked_way(counts, head);
-    let refocusings = run_refocusing::refocus(words, roots, stack, mover, forked, forks);
-    let last = refocusings.last;
-    if run_refocusing::full(last) {
-        return Reached::Stopped {
-            stop: Stop::NoRoom(NoRoom::Depth),
-            entry: no_entry(),
-        };
-    }
-    Reached::Refocused(refocusings)
-}
-
 // From where a move refocuses that begins so.
-fn go_of(begun: Begun) -> Refocusing
+pub fn go_of(begun: Begun) -> Refocusing
     ensures { λ r. ⌜ r ≡ goOf begun ⌝ }
 {
     match begun {
@@ -258,7 +233,8 @@ fn go_of(begun: Begun) -> Refocusing
     }
 }
 
-// Refocuses a move of the thread that begins so. All moves go through one call, so that refocusing is compiled into the caller.
+// Refocuses the mover from here and, of a fork, the thread that it makes. All moves go through one call of `run_refocusing`, so that it is compiled into the
+// caller.
 pub fn refocus(
     words: &[usize; 1024],
     roots: &[usize; 32],
@@ -266,18 +242,15 @@ pub fn refocus(
     counts: Counts,
     head: Head,
     thread: usize,
-    begun: Begun,
-) -> Reached
+    from: Refocusing,
+) -> Refocusings
     requires { ⌜ thread < 8 ⌝ }
-    ensures { λ r. ⌜ (record { stack = now (stack .exit); reached = r }) ≡ reachOf (now (words .entry)) (now (roots .entry)) counts head thread begun
+    ensures { λ r. ⌜ (record { stack = now (stack .exit); refocusings = r }) ≡ refocusingsFrom (now (words .entry)) (now (roots .entry)) counts head thread from
         (now (stack .entry)) ⌝ }
 {
-    match begun {
-        Begun::Passed => Reached::Passed,
-        Begun::Stopped { stop, entry } => Reached::Stopped {
-            stop: stop,
-            entry: entry,
-        },
-        _ => refocus_from(words, roots, stack, counts, head, thread, go_of(begun)),
-    }
+    let ready = head.ready;
+    let forks = ready.redex == redex::FORK;
+    let mover = mover_way(thread, head, from);
+    let forked = forked_way(counts, head);
+    run_refocusing::refocus(words, roots, stack, mover, forked, forks)
 }

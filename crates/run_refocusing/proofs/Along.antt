@@ -13,10 +13,10 @@ use Rattle.run_frames.specs.declared.refocusing.Refocusing.{Refocusing}
 use Rattle.run_frames.specs.inner.Going.{goList}
 use Rattle.run_refocusing_step.specs.declared.Turn.{Turn}
 use Rattle.run_refocusing_step.specs.inner.Ahead.{nextIn, takenOf, gatheredOf, aheadBy, alongBy}
-use Rattle.run_refocusing_step.specs.inner.Down.{openedOf, frameAt}
+use Rattle.run_refocusing_step.specs.inner.Down.{openedOf, frameAt, topOf}
 use Rattle.run_refocusing_step.proofs.Gathers.{within}
 use Rattle.run_refocusing_step.proofs.Along.{step-takes, step-opened}
-use Rattle.run_refocusing.specs.inner.Refocusing.{Stack, liveOf, stored, topOf, turnAt, refocusOf}
+use Rattle.run_refocusing.specs.inner.Refocusing.{Stack, liveOf, stored, turnAt, refocusOf}
 use Rattle.run_refocusing.proofs.Turns.{goes}
 
 module _ (ws rs : List ℕ) (base : ℕ) (k : Stack) (d : ℕ) where

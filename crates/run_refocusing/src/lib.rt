@@ -3,7 +3,7 @@
 ghost use mathlib.Core.Path.{_≡_};
 ghost use mathlib.Core.Bool.{true, false};
 ghost use Prim.Native.Nat.{_<_, _≤_};
-ghost use Rattle.run_refocusing.specs.inner.Refocusing.{liveOf, fullOf, refocusedOf, refocusingsOf, topOf, storeAt, refocusFrom, afterOf};
+ghost use Rattle.run_refocusing.specs.inner.Refocusing.{liveOf, fullOf, refocusedOf, noRefocusing, refocusingsOf, storeAt, refocusFrom, afterOf};
 use run_frames::frame;
 use run_frames::frame::Frame;
 use run_frames::refocusing;
@@ -25,7 +25,7 @@ pub struct Way {
     pub go: Refocusing,
 }
 
-// The last of one or two refocusings, and the one before it; of one alone, where it started.
+// The last of one or two refocusings, and the one before it, if there are two.
 pub struct Refocusings {
     pub before: Refocused,
     pub last: Refocused,
@@ -50,6 +50,13 @@ pub fn end_at(go: Refocusing, depth: usize) -> Refocused
         depth: depth,
         stage: stage,
     }
+}
+
+// No refocusing before the first.
+fn no_refocusing() -> Refocused
+    ensures { λ r. ⌜ r ≡ noRefocusing ⌝ }
+{
+    end_at(refocusing::full(), 0)
 }
 
 // Whether refocusing goes on.
@@ -81,17 +88,6 @@ pub fn full(refocused: Refocused) -> bool
     }
 }
 
-// The place of the top frame, of a thread whose places start at base.
-fn top(base: usize, depth: usize) -> usize
-    requires { ⌜ (base ≤ 264) × (depth ≤ 32) ⌝ }
-    ensures { λ r. ⌜ (r ≡ topOf base depth) × (r < 297) ⌝ }
-{
-    if depth == 0 {
-        return base;
-    }
-    base + (depth - 1)
-}
-
 // The store of a frame.
 fn store(stack: &mut [usize; 891], place: usize, frame: Frame)
     requires { ⌜ place < 297 ⌝ }
@@ -105,9 +101,8 @@ fn store(stack: &mut [usize; 891], place: usize, frame: Frame)
 }
 
 // Steps until the redex that moves next is found, or there is no room; then, of a fork whose mover has room, the same from the second way. A refocusing has
-// fewer
-// than 2,100 steps. Both go through one loop, so that a step has one caller, and the loop with it. Where a refocusing ends, two tests are faster than one of
-// both.
+// fewer than 2,100 steps. Both go through one loop, so that a step has one caller, and the loop with it. Where a refocusing ends, two tests are faster than one
+// of both.
 pub fn refocus(
     words: &[usize; 1024],
     roots: &[usize; 32],
@@ -118,14 +113,14 @@ pub fn refocus(
 ) -> Refocusings
     requires { ⌜ (first .base ≤ 264) × (first .depth ≤ 32) × (second .base ≤ 264) × (second .depth ≤ 32) ⌝ }
     ensures { λ r. ⌜ (record { stack = now (stack .exit); refocusings = r }) ≡ afterOf (now (words .entry)) (now (roots .entry)) forks second
-        (refocusedOf (first .go) (first .depth)) (refocusFrom (now (words .entry)) (now (roots .entry)) first (now (stack .entry))) ⌝ }
+        noRefocusing (refocusFrom (now (words .entry)) (now (roots .entry)) first (now (stack .entry))) ⌝ }
     ensures { λ r. ⌜ (r .before .depth ≤ 32) × (r .last .depth ≤ 32) ⌝ }
 {
     let mut base = first.base;
     let mut go = first.go;
     let mut depth = first.depth;
     let mut more = forks;
-    let mut before = end_at(go, depth);
+    let mut before = no_refocusing();
     let mut left: usize = 2100;
     while 0 < left {
         if !live(go) {
@@ -144,8 +139,7 @@ pub fn refocus(
             left = 2100;
             continue;
         }
-        let place = top(base, depth);
-        let stepped = run_refocusing_step::step(words, roots, stack, place, go, depth, left);
+        let stepped = run_refocusing_step::step(words, roots, stack, base, go, depth, left);
         let turn = stepped.turn;
         let pushed = turn.frame;
         if turn.at < turn.depth {

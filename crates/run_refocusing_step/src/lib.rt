@@ -1,9 +1,9 @@
 // One step of refocusing, the way down (an operand, a call's list, a term) or up with a value; before it, one for each value that comes next in a call's list.
 ghost use mathlib.Core.Path.{_≡_};
-ghost use Prim.Native.Nat.{_<_, _-_};
+ghost use Prim.Native.Nat.{_<_, _≤_, _-_};
 ghost use Rattle.run_refocusing_step.specs.inner.Ahead.{nextOf, gatheredOf, aheadOf, intoOf, steppedOf};
-ghost use Rattle.run_refocusing_step.specs.inner.Down.{stayOf, pushOf, wantOf, wantConditionOf, rootAt, listOf, signalOf, simpleOf, runOf};
-ghost use Rattle.run_refocusing_step.specs.inner.Down.{runConditionOf, openedOf, wantedOf, backOf, backConditionOf, frameAt};
+ghost use Rattle.run_refocusing_step.specs.inner.Down.{stayOf, pushOf, wantOf, wantConditionOf, rootAt, listOf, signalOf, simpleOf, openExpressionOf};
+ghost use Rattle.run_refocusing_step.specs.inner.Down.{openConditionOf, openedOf, wantedOf, backOf, backConditionOf, frameAt, topOf};
 use plan_operands::tags;
 use run_frames::frame;
 use run_frames::frame::Frame;
@@ -200,8 +200,8 @@ fn simple(word: usize, environment: usize) -> Refocusing
 }
 
 // Down from an expression.
-fn run(word: usize, environment: usize) -> Refocusing
-    ensures { λ r. ⌜ r ≡ runOf word environment ⌝ }
+fn open_expression(word: usize, environment: usize) -> Refocusing
+    ensures { λ r. ⌜ r ≡ openExpressionOf word environment ⌝ }
 {
     let tag = plan_operands::tag(word);
     let first = plan_operands::first(word);
@@ -246,8 +246,8 @@ fn run(word: usize, environment: usize) -> Refocusing
 }
 
 // Down from a condition.
-fn run_condition(word: usize, environment: usize) -> Refocusing
-    ensures { λ r. ⌜ r ≡ runConditionOf word environment ⌝ }
+fn open_condition(word: usize, environment: usize) -> Refocusing
+    ensures { λ r. ⌜ r ≡ openConditionOf word environment ⌝ }
 {
     let tag = plan_operands::tag(word);
     let first = plan_operands::first(word);
@@ -277,8 +277,8 @@ fn opened(words: &[usize; 1024], go: Refocusing) -> Refocusing
     let frame = go.frame;
     let stage = go.stage;
     match stage {
-        Stage::Run => run(words::word(words, go.operand), frame.environment),
-        Stage::RunCondition => run_condition(words::word(words, go.operand), frame.environment),
+        Stage::Run => open_expression(words::word(words, go.operand), frame.environment),
+        Stage::RunCondition => open_condition(words::word(words, go.operand), frame.environment),
         _ => go,
     }
 }
@@ -358,31 +358,42 @@ fn frame_at(stack: &[usize; 891], place: usize) -> Frame
     frame::unpack(stack[at], stack[at + 1], stack[at + 2])
 }
 
-// One step of refocusing and, before it, one for each value that comes next in a call's list, of at most so many, with the top frame at the place, which only a
-// value on its way up takes from there. A way down goes through its functions one after the other, so that each has one caller.
+// The place of the top frame, of a thread whose places start at base.
+fn top(base: usize, depth: usize) -> usize
+    requires { ⌜ (base ≤ 264) × (depth ≤ 32) ⌝ }
+    ensures { λ r. ⌜ (r ≡ topOf base depth) × (r < 297) ⌝ }
+{
+    if depth == 0 {
+        return base;
+    }
+    base + (depth - 1)
+}
+
+// One step of refocusing and, before it, one for each value that comes next in a call's list, of at most so many, with the frames of a thread whose places
+// start at base, of which only a value on its way up takes the top one. A way down goes through its functions one after the other, so that each has one caller.
 pub fn step(
     words: &[usize; 1024],
     roots: &[usize; 32],
     stack: &[usize; 891],
-    place: usize,
+    base: usize,
     go: Refocusing,
     depth: usize,
     left: usize,
 ) -> Stepped
-    requires { ⌜ (place < 297) × (0 < left) ⌝ }
-    ensures { λ r. ⌜ r ≡ steppedOf (now (words .entry)) (now (roots .entry)) left go depth (frameAt (now (stack .entry)) place) ⌝ }
+    requires { ⌜ (base ≤ 264) × (depth ≤ 32) × (0 < left) ⌝ }
+    ensures { λ r. ⌜ r ≡ steppedOf (now (words .entry)) (now (roots .entry)) left go depth (frameAt (now (stack .entry)) (topOf base depth)) ⌝ }
 {
     let stage = go.stage;
     match stage {
         Stage::Value => {
-            let turn = back(frame_at(stack, place), go.operand, depth);
+            let turn = back(frame_at(stack, top(base, depth)), go.operand, depth);
             Stepped {
                 left: left,
                 turn: turn,
             }
         }
         Stage::Truth => {
-            let turn = back_condition(frame_at(stack, place), go.operand, depth);
+            let turn = back_condition(frame_at(stack, top(base, depth)), go.operand, depth);
             Stepped {
                 left: left,
                 turn: turn,

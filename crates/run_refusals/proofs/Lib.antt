@@ -1,3 +1,2 @@
 pub mod RefusalChain
-pub mod WithPick
 pub mod Passed

@@ -16,8 +16,9 @@ use Rattle.plan_refusals.specs.declared.Checked.the-variants as checked
 use Rattle.plan_refusals.proofs.Stages.{passed-none}
 use Rattle.plan_packed.proofs.Accepted.{accepted}
 use Rattle.rules.specs.Play.{tooManyPicks, wrongPick, shortArea, scheduleRefusal, playRefusal}
+use Rattle.run_schedule_refusals.specs.inner.Checks.{pickChecks, areaChecks}
 use Rattle.run_refusals.specs.inner.Refused.{RefusedAs}
-use Rattle.run_refusals.proofs.RefusalChain.{pickChecks, schedule-stages, areaChecks, play-stages}
+use Rattle.run_refusals.proofs.RefusalChain.{schedule-stages, play-stages}
 
 -- ---- a schedule on a plan
 

@@ -2,23 +2,18 @@
 -- 10's. Assumes nothing.
 use Prim.Native.Nat.{ℕ}
 use mathlib.Core.Path.{_≡_, sym, _∙_}
-use mathlib.Core.List.{List, [], _∷_}
-use mathlib.Core.Option.{Option}
-use lib.ListN.{length}
-use Rattle.format.specs.Refusal.{Refusal, Check, check, checkWhole, orElse, firstRefusal}
+use mathlib.Core.List.{List}
+use Rattle.format.specs.Refusal.{orElse, firstRefusal}
 use Rattle.format.proofs.RefusalLaws.{refusal-append}
 use Rattle.plan_packed.specs.Check.{checks, refusal}
 use Rattle.plan_refusals.specs.Answer.{answered}
 use Rattle.plan_refusals.proofs.Stages.{refused-first, passed-first}
 use Rattle.plan_refusals.specs.declared.Checked.{Checked}
 use Rattle.plan_refusals.specs.declared.Checked.the-variants.{Passed, Refused}
-use Rattle.rules.specs.Play.{tooManyPicks, wrongPick, shortArea, scheduleChecks, scheduleRefusal, playChecks, playRefusal}
+use Rattle.rules.specs.Play.{scheduleChecks, scheduleRefusal, playChecks, playRefusal}
+use Rattle.run_schedule_refusals.specs.inner.Checks.{pickChecks, areaChecks}
 
 -- ---- of a schedule on a plan
-
--- checks 8 and 9
-abbrev pub pickChecks : List ℕ → List Check
-pickChecks schedule = checkWhole 8 (tooManyPicks schedule) ∷ check 9 (length schedule) (wrongPick schedule) ∷ []
 
 module _ (plan schedule : List ℕ) where
   pub schedule-stages : scheduleRefusal plan schedule ≡ orElse (refusal plan) (firstRefusal (pickChecks schedule))
@@ -35,10 +30,6 @@ module _ (plan schedule : List ℕ) where
   by-picks h r e q l = passed-first _ _ h r e q l ∙ sym schedule-stages
 
 -- ---- of a play
-
--- check 10
-abbrev pub areaChecks : List ℕ → List ℕ → List Check
-areaChecks schedule area = checkWhole 10 (shortArea schedule area) ∷ []
 
 module _ (plan schedule area : List ℕ) where
   pub play-stages : playRefusal plan schedule area ≡ orElse (scheduleRefusal plan schedule) (firstRefusal (areaChecks schedule area))

@@ -13,7 +13,7 @@ use borrow.Author.Tests.{eq-eqb, ne-eqb}
 use Rattle.plan_packed.specs.Syntax.{Program}
 use Rattle.plan_packed.specs.Trees.{programOf}
 use Rattle.rules.specs.Run as run
-use Rattle.rules.specs.Run.{play}
+use Rattle.rules.specs.Run.{play, instances}
 use Rattle.rules.specs.Play.{runOf}
 use Rattle.run_outcome.specs.declared.Stop.{Stop}
 use Rattle.run_outcome.specs.declared.Stop.the-variants as stop
@@ -29,7 +29,8 @@ use Rattle.listing.specs.inner.CanFollow.{canFollow, stops}
 use Rattle.listing.specs.inner.Ways.{Way, Complete}
 use Rattle.listing.proofs.Listed.{complete-of, whole-by}
 use Rattle.listing.proofs.Counted.{counted, counts-few, listed-counts, listed-by-count}
-use Rattle.run_replays.specs.inner.Replay.{OfEight, stopCount, Explores}
+use Rattle.run_counted_picks.specs.inner.Counted.{stopCount}
+use Rattle.run_replays.specs.inner.Replay.{OfEight, Explores}
 use Rattle.run_replays.specs.inner.Told.{Tells, Noted, ListedBy}
 use Rattle.run_replays.proofs.Opens.{stop-is}
 
@@ -42,7 +43,7 @@ stop-counts stop.Race = refl
 stop-counts (stop.NoRoom k) = refl
 
 module _ (plan picks : List ℕ) (o : Outcome) (h : OutcomeOf plan picks o) where
-  moves-are : o .moves ≡ length (play (programOf plan) picks .instances)
+  moves-are : o .moves ≡ length (instances (play (programOf plan) picks))
   unfolding outcomeOf run.outcomeOf runOf
   moves-are = ap (λ (x : run.Outcome). x .moves) h
 

@@ -1,22 +1,9 @@
 // What one run of some picks tells: the pick of each place and the next higher thread that could be picked there, and whether the picks are a listed schedule
 // (document 02, E11).
-ghost use mathlib.Core.Path.{_≡_};
 ghost use Rattle.plan_packed.specs.Trees.{programOf};
-ghost use Rattle.run_replays.specs.inner.Replay.{Replayable, Explores, stopCount};
+ghost use Rattle.run_replays.specs.inner.Replay.{Replayable, Explores};
 ghost use Rattle.run_replays.specs.inner.Told.{Listable, ListedBy};
 use run_engine::Explored;
-use run_outcome::Stop;
-
-// One for a run that stopped.
-fn stop_count(stop: Stop) -> usize
-    ensures { λ r. ⌜ r ≡ stopCount stop ⌝ }
-{
-    match stop {
-        Stop::End => 0,
-        Stop::Race => 1,
-        Stop::NoRoom(_) => 1,
-    }
-}
 
 // The run of some picks, and on behind them by the lowest thread that can be picked, of as many places as there are notes; on a log that nobody else sees.
 pub fn explore(plan: &[u8], words: &[usize; 1024], picks: &[u8], notes: &mut [u8]) -> Explored
@@ -48,5 +35,5 @@ pub fn listed(
     let ran = explored.ran;
     let outcome = ran.outcome;
     let stop = outcome.stop;
-    outcome.moves + stop_count(stop) == schedule.len()
+    run_counted_picks::all_counted(stop, outcome.moves, schedule.len())
 }

@@ -12,14 +12,15 @@ use run_keys::Joined;
 use run_keys::KeySet;
 use run_outcome::NoRoom;
 
-// What a move does: the mover's keys, the cell, the new object, the counts, the record, where the mover goes on, and how many keys it has learnt.
+// What a move does: where the mover goes on, its keys, the cell, the new object, the counts, the record, and how many keys it has learnt. Where it goes on
+// stands first, as in a move that only goes on elsewhere, so that one byte of the one is not part of a whole number of the other.
 pub struct Acted {
+    pub go: Refocusing,
     pub keys: KeySet,
     pub cell: Cell,
     pub object: Object,
     pub counts: Counts,
     pub entry: Entry,
-    pub go: Refocusing,
     pub new: u32,
 }
 

@@ -1,9 +1,14 @@
-// What a run counts and records: threads, objects and keys; moves; records, three bytes each in the log, for the moves that have one or for every move.
+// What a run counts and records: threads, objects and keys; moves; records, three bytes each in the log, for the moves that have one or for every move; and
+// what the run comes to by its counts.
 ghost use mathlib.Core.Path.{_≡_};
 ghost use Prim.Native.Nat.{_≤_, _+_, _*_};
 ghost use lib.ListN.{length};
-ghost use Rattle.run_tally.specs.inner.Tally.{shownEntry, tallyFirst, tallyPut, tallyMoved, logPut};
+ghost use Rattle.run_tally.specs.inner.Tally.{shownEntry, tallyFirst, tallyPut, tallyMoved, logPut, resultOf};
+use log_packing::put_columns;
 use log_records::kind;
+use run_outcome::Outcome;
+use run_outcome::Stop;
+use run_outcome::Thread;
 use run_state::Counts;
 use run_state::Entry;
 use run_state::acted;
@@ -13,6 +18,18 @@ pub struct Tally {
     pub counts: Counts,
     pub moves: usize,
     pub records: usize,
+}
+
+// How many moves and records a run had before the last pick that it met; none where it met no pick.
+pub struct Before {
+    pub moves: usize,
+    pub records: usize,
+}
+
+// What a run comes to.
+pub struct Ran {
+    pub outcome: Outcome,
+    pub before: Before,
 }
 
 // One thread, one object, one key.
@@ -41,13 +58,15 @@ pub fn put(log: &mut [u8], tally: Tally, thread: usize, entry: Entry) -> Tally
     if number == kind::NONE {
         return tally;
     }
-    let word = (((number % 16 * 8 + thread % 8) * 32 + entry.object % 32) * 32 + entry.field % 32)
-        * 128
-        + entry.value % 32 * 4;
-    let at = tally.records * 3;
-    log[at] = (word / 65536 % 256) as u8;
-    log[at + 1] = (word / 256 % 256) as u8;
-    log[at + 2] = (word % 256) as u8;
+    put_columns(
+        log,
+        tally.records,
+        number,
+        thread,
+        entry.object,
+        entry.field,
+        entry.value,
+    );
     let counts = tally.counts;
     Tally {
         counts: counts,
@@ -89,5 +108,33 @@ pub fn moved(tally: Tally, counts: Counts) -> Tally
         counts: counts,
         moves: tally.moves + 1,
         records: tally.records,
+    }
+}
+
+// What a run comes to that ended so behind so many picks, by what it had counted then, and its moves and records before the last pick that it met.
+pub fn result(
+    stop: Stop,
+    picks: usize,
+    then: Tally,
+    moves: usize,
+    records: usize,
+    threads: [Thread; 8],
+) -> Ran
+    ensures { λ r. ⌜ r ≡ resultOf stop picks then moves records threads ⌝ }
+{
+    let outcome = Outcome {
+        stop: stop,
+        picks: picks,
+        moves: then.moves,
+        records: then.records,
+        threads: threads,
+    };
+    let before = Before {
+        moves: moves,
+        records: records,
+    };
+    Ran {
+        outcome: outcome,
+        before: before,
     }
 }

@@ -16,8 +16,8 @@ use Rattle.plan_refusals.proofs.Bounds.{small-checks, small-stages}
 use Rattle.rules.specs.Play.{scheduleRefusal}
 use Rattle.answers.specs.Answer.{Answer}
 use Rattle.listing.specs.Listed.{Listed}
-use Rattle.interleavings.specs.Interleavings.{overBound, shortOutput, firstRefused, FirstAnswer, Next, nextRefused, NextAnswer}
-use Rattle.interleavings.proofs.Answers.{first-stages, next-stages}
+use Rattle.listing_answers.specs.Interleavings.{overBound, shortOutput, firstRefused, FirstAnswer, Next, nextRefused, NextAnswer}
+use Rattle.listing_answers.proofs.Answers.{first-stages, next-stages}
 use Rattle.abi_convention.specs.inner.Small.{SmallAnswer}
 use Rattle.abi_numbers.specs.inner.Small.{SmallNext}
 use Rattle.abi_convention.proofs.Wider.{wider}

@@ -16,7 +16,8 @@ use Rattle.log_records.specs.Packed.{recordCount}
 use Rattle.log_records.specs.Refusals.{wrongLogLength, wrongRecord, logChecks, logRefusal}
 use Rattle.log_records.proofs.Accepted.{right-length}
 use Rattle.rules.specs.Play.{tooManyPicks, scheduleRefusal, playRefusal}
-use Rattle.run_refusals.proofs.RefusalChain.{pickChecks, schedule-stages, areaChecks, play-stages}
+use Rattle.run_schedule_refusals.specs.inner.Checks.{pickChecks, areaChecks}
+use Rattle.run_refusals.proofs.RefusalChain.{schedule-stages, play-stages}
 
 -- a check with the one place 0
 pub whole : (k : ℕ) → k ≤ 24 → Small k 1

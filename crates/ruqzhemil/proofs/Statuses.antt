@@ -18,7 +18,8 @@ use Rattle.rules.specs.Run.{status, statusesFrom}
 use Rattle.rules.proofs.Placed.{Ready, Good}
 use Rattle.rules.proofs.Invariant.{Inv}
 use Rattle.rules.proofs.TidyRuns.{Roomy}
-use Rattle.abi_outcome.specs.inner.Small.{SmallWait, SmallStuck, SmallStatus, AllSmall}
+use Rattle.abi_thread_bytes.specs.inner.Small.{SmallWait, SmallStuck, SmallStatus}
+use Rattle.abi_outcome.specs.inner.Small.{AllSmall}
 
 abbrev SmallAct : Act → Type 0
 SmallAct (waits w) = SmallWait w

@@ -20,7 +20,7 @@ use Rattle.waveform.proofs.Answers.{last, stages}
 use Rattle.waveform.proofs.FileLength.{file-most}
 use Rattle.plan_packed.specs.Trees.{programOf}
 use Rattle.plan_packed.proofs.Decoded.{well-formed}
-use Rattle.rules.specs.Run.{outcomeOf}
+use Rattle.rules.specs.Run.{outcomeOf, instances}
 use Rattle.rules.specs.Play.{scheduleRefusal, runOf}
 use Rattle.rules.proofs.Executed.{play-executes}
 use Rattle.run_refusals.proofs.Passed.{scheduled}
@@ -50,11 +50,11 @@ pub small-charge : (plan schedule : List ℕ) (option : Bool) → SmallAnswer (c
 unfolding charged chargeOf outcomeOf runOf
 small-charge plan schedule option = small-answer (scheduleRefusal plan schedule) _ (small-schedule plan schedule) few-cents
   where
-    few-cents : scheduleRefusal plan schedule ≡ none → priceBy option (runOf plan schedule .stop) (length (runOf plan schedule .instances)) < 2 ^ 32
+    few-cents : scheduleRefusal plan schedule ≡ none → priceBy option (runOf plan schedule .stop) (length (instances (runOf plan schedule))) < 2 ^ 32
     few-cents e =
         let s = scheduled plan schedule e in
         let m = few (play-executes (programOf plan) (well-formed plan (s .plan-passes)) schedule) .1 in
-        omega (arith, price-small option (runOf plan schedule .stop) (length (runOf plan schedule .instances)) (omega (arith, s .few, m)))
+        omega (arith, price-small option (runOf plan schedule .stop) (length (instances (runOf plan schedule))) (omega (arith, s .few, m)))
 
 pub small-comtrade : (log area : List ℕ) → SmallAnswer (comtradeAnswer log area)
 unfolding comtradeAnswer

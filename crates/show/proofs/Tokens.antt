@@ -19,16 +19,27 @@ use Rattle.plan_notation.specs.inner.Known.{Known}
 use Rattle.plan_notation.specs.Shown.{shownPlan}
 use Rattle.plan_notation.proofs.ShownCodes.{plan-fit, known}
 use Rattle.plan_tokens.specs.inner.Begun.{Given}
+use Rattle.answers.specs.declared.Answered.{Answered}
+use Rattle.show.specs.inner.Begun.{TextWritten}
 
 pub given : {plan words : List ℕ} {r : Checked} → answered r ≡ refusal plan → (r ≡ Passed → Loaded plan (terms plan) words) → r ≡ Passed → Given plan words
 given {plan} {words} {r} e l q = record { passes = passed-none (refusal plan) r e q; loaded = l q }
 
 -- the first n bytes of the array, as the code takes them
-pub first-tokens : (plan : List ℕ) {a b : List ℕ} {n : ℕ} → Wrote a 0 (shownPlan (programOf plan)) b n → take (n - 0) b ≡ shownPlan (programOf plan)
+first-tokens : (plan : List ℕ) {a b : List ℕ} {n : ℕ} → Wrote a 0 (shownPlan (programOf plan)) b n → take (n - 0) b ≡ shownPlan (programOf plan)
 first-tokens plan {b = b} {n} w = ap (λ (m : ℕ). take m b) (same n) ∙ w .text
   where
     same : (n : ℕ) → n - 0 ≡ n
     same n = omega arith
+
+pub tokens-length : (plan : List ℕ) {a b : List ℕ} {n : ℕ} → Wrote a 0 (shownPlan (programOf plan)) b n
+    → length (take (n - 0) b) ≡ length (shownPlan (programOf plan))
+tokens-length plan w = ap length (first-tokens plan w)
+
+-- what is written of them is written of the plan's tokens
+pub plan-text : (plan : List ℕ) {a b area area′ : List ℕ} {n : ℕ} {r : Answered} → Wrote a 0 (shownPlan (programOf plan)) b n
+    → TextWritten (take (n - 0) b) area area′ r → TextWritten (shownPlan (programOf plan)) area area′ r
+plan-text plan {area = area} {area′} {r = r} w t = subst (λ (ts : List ℕ). TextWritten ts area area′ r) (first-tokens plan w) t
 
 pub known-tokens : {plan words a b : List ℕ} {n : ℕ} → Given plan words → Wrote a 0 (shownPlan (programOf plan)) b n
     → Known (take (n - 0) b) × (length (take (n - 0) b) ≤ 16384)

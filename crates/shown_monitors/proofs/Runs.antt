@@ -22,13 +22,13 @@ use Rattle.log_records.specs.Record.{Record}
 use Rattle.log_order.proofs.KeySets.{KeySet}
 use Rattle.rules.specs.State.{Cell, cell, State, start, monitor}
 use Rattle.rules.specs.Room.{PickAnswerOf, PickAnswer, step}
-use Rattle.rules.specs.Run.{Stop, Run, logged, stopped, afterPass, afterMove, resume, run, play}
+use Rattle.rules.specs.Run.{Stop, Run, logged, stopped, afterPass, afterMove, resume, run, play, log}
 use Rattle.rules.specs.Play.{runOf}
 use Rattle.rules.proofs.KeyBridge.{keysOf}
 use Rattle.rules.proofs.Bridge.{Kept}
 use Rattle.rules.proofs.RunKeys.{kept-play}
 use Rattle.rules.proofs.Holders.{Holders, holders-play, holding}
-use Rattle.rules.proofs.RunAppend.{run-append, run-stopped}
+use Rattle.rules.proofs.RunAppend.{run-stopped, log-goes-on}
 use Rattle.text_sample_lines.specs.DataFile.{digital}
 use Rattle.shown_monitors.specs.Held.{Held}
 use Rattle.shown_monitors.proofs.Taken.{Shows, shows}
@@ -84,40 +84,40 @@ module _ (g : Program) (s : State) (L : List Record) (J : Kept g s (reverse L)) 
 
 module _ (g : Program) where
   -- they begin the log of the whole run
-  first-records : (s : State) (ps qs : List ℕ) → take (length (run g s ps .log)) (run g s (ps ++ qs) .log) ≡ run g s ps .log
+  first-records : (s : State) (ps qs : List ℕ) → take (length (log (run g s ps))) (log (run g s (ps ++ qs))) ≡ log (run g s ps)
   first-records s ps qs = go (run g s ps .stop) refl
     where
-      all : (run g s ps .stop ≡ Stop.end → ⊥) → take (length (run g s ps .log)) (run g s (ps ++ qs) .log) ≡ run g s ps .log
-      all n = ap (λ (r : Run). take (length (run g s ps .log)) (r .log)) (run-stopped g s ps qs n)
-          ∙ take-all (length (run g s ps .log)) (run g s ps .log) (omega arith)
+      all : (run g s ps .stop ≡ Stop.end → ⊥) → take (length (log (run g s ps))) (log (run g s (ps ++ qs))) ≡ log (run g s ps)
+      all n = ap (λ (r : Run). take (length (log (run g s ps))) (log r)) (run-stopped g s ps qs n)
+          ∙ take-all (length (log (run g s ps))) (log (run g s ps)) (omega arith)
 
-      go : (e : Stop) → run g s ps .stop ≡ e → take (length (run g s ps .log)) (run g s (ps ++ qs) .log) ≡ run g s ps .log
-      go Stop.end e = ap (λ (r : Run). take (length (run g s ps .log)) (r .log)) (run-append g s ps qs e)
-          ∙ take-append-seam (run g s ps .log) (run g (run g s ps .final) qs .log)
+      go : (e : Stop) → run g s ps .stop ≡ e → take (length (log (run g s ps))) (log (run g s (ps ++ qs))) ≡ log (run g s ps)
+      go Stop.end e = ap (take (length (log (run g s ps)))) (log-goes-on g s ps qs e)
+          ∙ take-append-seam (log (run g s ps)) (log (run g (run g s ps .final) qs))
       go Stop.race e = all (λ q. true≢false cc)
       go (Stop.noRoom k) e = all (λ q. true≢false cc)
 
   -- after some number of picks there are just n records
-  written-after : (s : State) (ps : List ℕ) (n : ℕ) → n ≤ length (run g s ps .log) → (k : ℕ) × (length (run g s (take k ps) .log) ≡ n)
-  unfolding run resume stopped afterPass afterMove logged
+  written-after : (s : State) (ps : List ℕ) (n : ℕ) → n ≤ length (log (run g s ps)) → (k : ℕ) × (length (log (run g s (take k ps))) ≡ n)
+  unfolding run log resume stopped afterPass afterMove
   written-after s [] n h = (0, omega arith)
   written-after s (p ∷ ps) n h = go n (step g s p) refl h (λ z m l. written-after z ps m l)
     where
       After : ℕ → Type 0
-      After n = (k : ℕ) × (length (run g s (take k (p ∷ ps)) .log) ≡ n)
+      After n = (k : ℕ) × (length (log (run g s (take k (p ∷ ps)))) ≡ n)
 
-      go : (n : ℕ) (a : PickAnswer) → step g s p ≡ a → n ≤ length (resume s (λ z. run g z ps) a .log)
-          → ((z : State) (m : ℕ) → m ≤ length (run g z ps .log) → (k : ℕ) × (length (run g z (take k ps) .log) ≡ m)) → After n
+      go : (n : ℕ) (a : PickAnswer) → step g s p ≡ a → n ≤ length (log (resume s p (λ z. run g z ps) a))
+          → ((z : State) (m : ℕ) → m ≤ length (log (run g z ps)) → (k : ℕ) × (length (log (run g z (take k ps))) ≡ m)) → After n
       go zero a e l ih = (0, refl)
       go (suc n) PickAnswerOf.passed e l ih = let x = ih s (suc n) l in (suc (x .0), rw e (x .1))
       go (suc n) (PickAnswerOf.race r) e l ih = (1, rw e (let z : 1 ≡ suc n = omega arith in z))
       go (suc n) (PickAnswerOf.noRoom w) e l ih = absurd (omega arith)
       go (suc n) (PickAnswerOf.moved m) e l ih = moved (m .entry) refl l
         where
-          one-more : (r : Record) → m .entry ≡ some r → (k : ℕ) × (length (run g (m .state) (take k ps) .log) ≡ n) → After (suc n)
+          one-more : (r : Record) → m .entry ≡ some r → (k : ℕ) × (length (log (run g (m .state) (take k ps))) ≡ n) → After (suc n)
           one-more r q (k, x) = (suc k, rw (e, q) (ap suc x))
 
-          moved : (r : Option Record) → m .entry ≡ r → suc n ≤ length (logged r (run g (m .state) ps .log)) → After (suc n)
+          moved : (r : Option Record) → m .entry ≡ r → suc n ≤ length (logged r (log (run g (m .state) ps))) → After (suc n)
           moved none q l = let x = ih (m .state) (suc n) l in (suc (x .0), rw (e, q) (x .1))
           moved (some r) q l = one-more r q (ih (m .state) n (omega arith))
 
@@ -125,39 +125,39 @@ module _ (g : Program) where
 
 module _ (g : Program) (P : WellFormedProgram g) where
   -- after any picks
-  shown-after : (ps : List ℕ) (o : ℕ) → (digital o (play g ps .log) ≡ 1) ↔ Held (play g ps .final) o
-  shown-after ps o = held-exactly g (play g ps .final) (play g ps .log) (kept-play g P ps) (holders-play g P ps) o
+  shown-after : (ps : List ℕ) (o : ℕ) → (digital o (log (play g ps)) ≡ 1) ↔ Held (play g ps .final) o
+  shown-after ps o = held-exactly g (play g ps .final) (log (play g ps)) (kept-play g P ps) (holders-play g P ps) o
 
   -- of the line of each record: after any of the picks by which so many records are written
-  line-shown : (ps qs : List ℕ) (n o : ℕ) → length (play g ps .log) ≡ n → (digital o (take n (play g (ps ++ qs) .log)) ≡ 1) ↔ Held (play g ps .final) o
+  line-shown : (ps qs : List ℕ) (n o : ℕ) → length (log (play g ps)) ≡ n → (digital o (take n (log (play g (ps ++ qs)))) ≡ 1) ↔ Held (play g ps .final) o
   unfolding play
   line-shown ps qs n o e =
       subst (λ (L : List Record). (digital o L ≡ 1) ↔ Held (play g ps .final) o)
-      (sym (first-records g start ps qs) ∙ ap (λ (k : ℕ). take k (play g (ps ++ qs) .log)) e)
+      (sym (first-records g start ps qs) ∙ ap (λ (k : ℕ). take k (log (play g (ps ++ qs)))) e)
       (shown-after ps o)
 
   -- and there are such picks
-  every-line : (ps : List ℕ) (n o : ℕ) → n ≤ length (play g ps .log)
-      → (k : ℕ) × (length (play g (take k ps) .log) ≡ n) × ((digital o (take n (play g ps .log)) ≡ 1) ↔ Held (play g (take k ps) .final) o)
+  every-line : (ps : List ℕ) (n o : ℕ) → n ≤ length (log (play g ps))
+      → (k : ℕ) × (length (log (play g (take k ps))) ≡ n) × ((digital o (take n (log (play g ps))) ≡ 1) ↔ Held (play g (take k ps) .final) o)
   unfolding play
   every-line ps n o h =
       let x = written-after g start ps n h in (
         x .0,
         x .1,
-        subst (λ (rs : List ℕ). (digital o (take n (play g rs .log)) ≡ 1) ↔ Held (play g (take (x .0) ps) .final) o) (take-append-drop (x .0) ps)
+        subst (λ (rs : List ℕ). (digital o (take n (log (play g rs))) ≡ 1) ↔ Held (play g (take (x .0) ps) .final) o) (take-append-drop (x .0) ps)
             (line-shown (take (x .0) ps) (drop (x .0) ps) n o (x .1)),
       )
 
 -- of plans that pass the check
 module _ (plan : List ℕ) (e : refusal plan ≡ none) where
   -- at line n of a run's log digital value o is 1 exactly when some thread holds the monitor of object o after any first picks that write n records
-  pub monitors-shown : (ps qs : List ℕ) (n o : ℕ) → length (runOf plan ps .log) ≡ n
-      → (digital o (take n (runOf plan (ps ++ qs) .log)) ≡ 1) ↔ Held (runOf plan ps .final) o
+  pub monitors-shown : (ps qs : List ℕ) (n o : ℕ) → length (log (runOf plan ps)) ≡ n
+      → (digital o (take n (log (runOf plan (ps ++ qs)))) ≡ 1) ↔ Held (runOf plan ps .final) o
   unfolding runOf
   monitors-shown = line-shown (programOf plan) (well-formed plan e)
 
   -- and for each line there are such first picks
-  pub each-line-shown : (ps : List ℕ) (n o : ℕ) → n ≤ length (runOf plan ps .log)
-      → (k : ℕ) × (length (runOf plan (take k ps) .log) ≡ n) × ((digital o (take n (runOf plan ps .log)) ≡ 1) ↔ Held (runOf plan (take k ps) .final) o)
+  pub each-line-shown : (ps : List ℕ) (n o : ℕ) → n ≤ length (log (runOf plan ps))
+      → (k : ℕ) × (length (log (runOf plan (take k ps))) ≡ n) × ((digital o (take n (log (runOf plan ps))) ≡ 1) ↔ Held (runOf plan (take k ps) .final) o)
   unfolding runOf
   each-line-shown = every-line (programOf plan) (well-formed plan e)

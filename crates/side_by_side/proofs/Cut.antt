@@ -27,7 +27,7 @@ use Rattle.rules.specs.Rules.{E-ACQUIRE, E-RELEASE, E-WAIT, E-WAKE, E-NOTIFY, E
 use Rattle.rules.specs.Rules.{E-EQUALFALSE, Moves, EVAL, EVALᶜ}
 use Rattle.rules.specs.Step.{Move}
 use Rattle.rules.specs.Room.{noRoomFor, PickAnswerOf, PickAnswer, step}
-use Rattle.rules.specs.Run.{Stop, run, resume, logged}
+use Rattle.rules.specs.Run.{Stop, run, resume, logged, instances}
 use Rattle.rules.proofs.Relocated.{is-there, signalled-relocated}
 use Rattle.rules.proofs.StateLaws.{inside, added-old, change-other}
 use Rattle.rules.proofs.Invariant.{Inv}
@@ -101,13 +101,13 @@ snoc (pick m′ h′ ps) q m h = pick m′ h′ (snoc ps q m h)
 
 -- played, every pick moves, and the run ends where it ends
 pub plays-run : {g : Program} {s s′ : State} {qs : List ℕ} → Plays g s qs s′
-    → (run g s qs .stop ≡ Stop.end) × (run g s qs .final ≡ s′) × (length (run g s qs .instances) ≡ length qs)
-unfolding run
+    → (run g s qs .stop ≡ Stop.end) × (run g s qs .final ≡ s′) × (length (instances (run g s qs)) ≡ length qs)
+unfolding run instances
 plays-run done = (refl, refl, refl)
 plays-run {g} {s} {s′} (pick {q = q} {qs = qs} m h ps) =
     let d = plays-run ps in
-    along (λ (a : PickAnswer). (resume s (λ z. run g z qs) a .stop ≡ Stop.end) × (resume s (λ z. run g z qs) a .final ≡ s′) ×
-    (length (resume s (λ z. run g z qs) a .instances) ≡ suc (length qs))) (sym h) (d .0, d .1, ap suc (d .2))
+    along (λ (a : PickAnswer). (resume s q (λ z. run g z qs) a .stop ≡ Stop.end) × (resume s q (λ z. run g z qs) a .final ≡ s′) ×
+    (length (instances (resume s q (λ z. run g z qs) a)) ≡ suc (length qs))) (sym h) (d .0, d .1, ap suc (d .2))
 
 -- ---- the start
 

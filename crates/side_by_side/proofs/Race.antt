@@ -32,7 +32,7 @@ use Rattle.rules.proofs.Equivalence.{step-sound, sound-lacks}
 use Rattle.rules.proofs.Executed.{Reachable, reachable-start, reachable-move}
 use Rattle.rules.proofs.RunKeys.{kept-lacks}
 use Rattle.side_by_side.specs.inner.Waitless.{WaitlessProgram}
-use Rattle.side_by_side.specs.Moves.{shown, movesBy, movesFrom, movesOf}
+use Rattle.side_by_side.specs.Moves.{shown, shownMoves, movesOf}
 use Rattle.side_by_side.specs.Schedule.{Numbers, isFork, firstNumbers, numbersAfter, nextAfter, orZero, picksFrom, picksOf, numbersOf}
 use Rattle.side_by_side.specs.SideBySide.{Stays, Written, About, Renamed, SideBySide, reads, writes}
 use Rattle.rules.proofs.TidyRuns.{Roomy, tidy-move}
@@ -203,7 +203,7 @@ pub record Raced (g : Program) (s : State) (H : List Record) (ps : List ℕ) : T
   pub thread : ℕ
   pub access : Record
   pub lacking : Lacks g state thread access
-  pub are-moves : reverseAux (movesFrom g s ps) H ≡ access ∷ moves
+  pub are-moves : reverseAux (shownMoves (run g s ps)) H ≡ access ∷ moves
   pub few : length moves < length H + length ps
 
 answer-race : (s : State) (p : ℕ) (a : Attempt) (r : Record) → answer s p a ≡ PickAnswerOf.race r → a ≡ AttemptOf.lacking r
@@ -225,7 +225,7 @@ module _ (g : Program) (P : WellFormedProgram g) where
   step-lacks s I p r h = sound-lacks g s (I .one-key) p r (answer-race s p (attempt g s p) r h)
 
   pub raced : (ps : List ℕ) {s : State} {H : List Record} → Trail g s H → run g s ps .stop ≡ Stop.race → Raced g s H ps
-  unfolding run movesFrom resume stopped afterPass afterMove
+  unfolding run shownMoves resume stopped afterPass afterMove
   raced [] tr h = absurd (true≢false cc)
   raced (p ∷ ps) {s} {H} tr h = go (step g s p) refl h (λ s′ H′ t k. raced ps t k)
     where
@@ -233,10 +233,10 @@ module _ (g : Program) (P : WellFormedProgram g) where
       I = trail-kept g P tr .0
 
       move-list : (s″ : State) (M : List Record) (a : PickAnswer) → step g s p ≡ a
-          → reverseAux (movesBy s (λ s′. movesFrom g s′ ps) p a) H ≡ reverseAux (movesBy s (λ s′. movesFrom g s′ ps) p (step g s p)) H
-      move-list s″ M a e = ap (λ (b : PickAnswer). reverseAux (movesBy s (λ s′. movesFrom g s′ ps) p b) H) (sym e)
+          → reverseAux (shownMoves (resume s p (λ z. run g z ps) a)) H ≡ reverseAux (shownMoves (resume s p (λ z. run g z ps) (step g s p))) H
+      move-list s″ M a e = ap (λ (b : PickAnswer). reverseAux (shownMoves (resume s p (λ z. run g z ps) b)) H) (sym e)
 
-      go : (a : PickAnswer) → step g s p ≡ a → resume s (λ z. run g z ps) a .stop ≡ Stop.race
+      go : (a : PickAnswer) → step g s p ≡ a → resume s p (λ z. run g z ps) a .stop ≡ Stop.race
           → ((s′ : State) (H′ : List Record) → Trail g s′ H′ → run g s′ ps .stop ≡ Stop.race → Raced g s′ H′ ps) → Raced g s H (p ∷ ps)
       go PickAnswerOf.passed e h k = let x =
           k s H tr h in record {

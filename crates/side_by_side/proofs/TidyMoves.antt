@@ -13,11 +13,12 @@ use Rattle.rules.specs.State.{Thread, State, start}
 use Rattle.rules.specs.Rules.{Rule, Moves}
 use Rattle.rules.specs.Step.{Move}
 use Rattle.rules.specs.Room.{noRoomFor, PickAnswerOf, PickAnswer, step}
+use Rattle.rules.specs.Run.{resume, run}
 use Rattle.rules.proofs.StateLaws.{inside}
 use Rattle.rules.proofs.Equivalence.{step-sound}
 use Rattle.rules.proofs.Executed.{Reachable, reachable-start, reachable-move}
 use Rattle.rules.proofs.TidyRuns.{Roomy, tidy-move, tidy-lacking}
-use Rattle.side_by_side.specs.Moves.{shown, movesBy, movesFrom, movesOf}
+use Rattle.side_by_side.specs.Moves.{shown, shownMoves, movesOf}
 use Rattle.side_by_side.proofs.Cut.{mover}
 use Rattle.side_by_side.proofs.Race.{step-lacks, roomy-start}
 
@@ -36,13 +37,13 @@ module _ (g : Program) (P : WellFormedProgram g) where
   abbrev TidyMoves : List ℕ → List Record → Type 0
   TidyMoves ps L = AllTidy L × (length L ≤ length ps)
 
-  tidy-from : (ps : List ℕ) (s : State) → Reachable g s → Roomy s → TidyMoves ps (movesFrom g s ps)
-  unfolding movesFrom movesBy
+  tidy-from : (ps : List ℕ) (s : State) → Reachable g s → Roomy s → TidyMoves ps (shownMoves (run g s ps))
+  unfolding run resume shownMoves
   tidy-from [] s I z = (tt, omega arith)
   tidy-from (p ∷ ps) s I z = go (step g s p) refl (λ s′ I′ z′. tidy-from ps s′ I′ z′)
     where
-      go : (a : PickAnswer) → step g s p ≡ a → ((s′ : State) → Reachable g s′ → Roomy s′ → TidyMoves ps (movesFrom g s′ ps))
-          → TidyMoves (p ∷ ps) (movesBy s (λ s′. movesFrom g s′ ps) p a)
+      go : (a : PickAnswer) → step g s p ≡ a → ((s′ : State) → Reachable g s′ → Roomy s′ → TidyMoves ps (shownMoves (run g s′ ps)))
+          → TidyMoves (p ∷ ps) (shownMoves (resume s p (λ z. run g z ps) a))
       go PickAnswerOf.passed e ih = let d = ih s I z in let b = d .1 in (d .0, omega arith)
       go (PickAnswerOf.race r) e ih = ((tidy-lacking g s (I .invariant) z p (step-lacks g P s I p r e), tt), omega arith)
       go (PickAnswerOf.noRoom k) e ih = (tt, omega arith)

@@ -14,7 +14,7 @@ use Rattle.log_order.specs.Chains.{At, Chain, LastWrite}
 use Rattle.rules.specs.Context.{Context, Redex, Focus, focus, top}
 use Rattle.rules.specs.State.{Cell, Thread, State, lookup}
 use Rattle.rules.specs.Rules.{isVolatile}
-use Rattle.rules.specs.Run.{Stop, play}
+use Rattle.rules.specs.Run.{Stop, play, instances}
 use Rattle.side_by_side.specs.Moves.{movesOf}
 use Rattle.side_by_side.specs.Schedule.{Numbers, picksOf, numbersOf}
 
@@ -57,7 +57,7 @@ pub data Renamed (ω : Numbers) (r : Record) : Redex → Type 0 where
 -- up to numbering."
 pub record SideBySide (g : Program) (ps qs : List ℕ) (w : Written g ps qs) : Type 0 where
   pub ends : play g qs .stop ≡ Stop.end
-  pub every-pick-moves : length (play g qs .instances) ≡ length qs
+  pub every-pick-moves : length (instances (play g qs)) ≡ length qs
   pub objects : Numbers  -- the objects' new numbers
   pub apart : (o o′ a : ℕ) → objects o ≡ some a → objects o′ ≡ some a → o ≡ o′
   pub writer : ℕ

@@ -13,7 +13,7 @@ pub fn lane_count(log: &[u8]) -> usize
     let mut lanes = 0;
     let mut index = 0;
     while index < log.len() / 3 {
-        let columns = log_decoding::columns_at(log, index);
+        let columns = log_packing::columns_at(log, index);
         if lanes <= columns.thread {
             lanes = columns.thread + 1;
         }

@@ -10,8 +10,8 @@ use lib.Seq.{length-take-le, take-all}
 use Rattle.log_records.specs.Record.{Record}
 use Rattle.log_records.specs.Packed.{recordAt, recordCount, logOf}
 use Rattle.log_records.proofs.RoundTrip.{length-log, log-element}
-use Rattle.log_decoding.specs.declared.Columns.{Columns}
-use Rattle.log_decoding.specs.inner.Columns.{ReadAt}
+use Rattle.log_packing.specs.declared.Columns.{Columns}
+use Rattle.log_packing.specs.inner.Columns.{ReadAt}
 use Rattle.text_record_lines.specs.inner.Columns.{recordOf}
 use Rattle.text_record_lines.proofs.FirstRecords.{first-more, columns-are}
 use Rattle.text_diagram_elements.specs.Diagram.{laneCount, laneX, rowY, threadOf, markX, segment, rowText, rowTexts, between}

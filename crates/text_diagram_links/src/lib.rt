@@ -19,8 +19,8 @@ fn put_between(
     ensures { λ r. ⌜ Drawn (length (now (class .entry)) + 61) (now (area .entry)) at
         (between (now (class .entry)) (logOf (now (log .entry))) first second) (now (area .exit)) r ⌝ }
 {
-    let start = log_decoding::columns_at(log, first);
-    let end = log_decoding::columns_at(log, second);
+    let start = log_packing::columns_at(log, first);
+    let end = log_packing::columns_at(log, second);
     let x1 = 40 + 80 * start.thread;
     let x2 = 40 + 80 * end.thread;
     text_diagram_elements::put_segment(area, at, class, x1, 48 + 24 * first, x2, 48 + 24 * second)

@@ -3,11 +3,11 @@ ghost use Prim.Native.Nat.{_+_, _*_, _/_, _≤_, _<_};
 ghost use mathlib.Core.Path.{_≡_};
 ghost use lib.ListN.{length};
 ghost use Rattle.log_records.specs.Packed.{logOf};
-ghost use Rattle.log_decoding.specs.inner.Columns.{Narrow};
+ghost use Rattle.log_packing.specs.inner.Columns.{Narrow};
 ghost use Rattle.text_record_lines.specs.inner.Columns.{recordOf};
 ghost use Rattle.text_diagram_elements.specs.Diagram.{inRace, colour, markText, wordsText, rowText, rowTexts, raceOf};
 ghost use Rattle.text_diagram_elements.specs.inner.Drawn.{Drawn};
-use log_decoding::Columns;
+use log_packing::Columns;
 use text_diagram_elements::Race;
 
 // Whether a record is one of the two of a race.
@@ -87,7 +87,7 @@ pub fn put_rows(area: &mut [u8], at: usize, log: &[u8], lanes: usize, race: Race
     let mut next = at;
     let mut index = 0;
     while index < log.len() / 3 {
-        let columns = log_decoding::columns_at(log, index);
+        let columns = log_packing::columns_at(log, index);
         next = put_row(area, next, lanes, race, index, columns);
         index += 1;
     }

@@ -14,9 +14,10 @@ use Rattle.format.proofs.RefusalLaws.{refusal-append, both-none, none-below, he
 use Rattle.plan_packed.specs.Trees.{programOf}
 use Rattle.plan_packed.specs.Check.{checks, refusal}
 use Rattle.rules.specs.Play.{tooManyPicks, wrongPick, scheduleChecks, scheduleRefusal}
-use Rattle.run_refusals.proofs.RefusalChain.{pickChecks, schedule-stages}
+use Rattle.run_schedule_refusals.specs.inner.Checks.{pickChecks}
+use Rattle.run_refusals.proofs.RefusalChain.{schedule-stages}
 use Rattle.listing.specs.Listed.{Listed}
-use Rattle.interleavings.specs.Interleavings.{overBound, shortOutput, firstRefused, nextRefused}
+use Rattle.listing_answers.specs.Interleavings.{overBound, shortOutput, firstRefused, nextRefused}
 use Rattle.interleavings.specs.Count.{countRefused}
 
 module _ (plan : List ℕ) (n : ℕ) where

@@ -16,8 +16,8 @@ use Rattle.answers.specs.Answer.{value, refused, answered}
 use Rattle.answers.specs.declared.Answered.{Answered}
 use Rattle.answers.specs.declared.Answered.the-variants as answer
 use Rattle.listing.specs.Listed.{Listed, First, Following, Over}
-use Rattle.interleavings.specs.Interleavings as papers
-use Rattle.interleavings.specs.Interleavings.{FirstAnswer, NextAnswer, firstRefused, nextRefused}
+use Rattle.listing_answers.specs.Interleavings as papers
+use Rattle.listing_answers.specs.Interleavings.{FirstAnswer, NextAnswer, firstRefused, nextRefused}
 use Rattle.interleavings.specs.Answer as nexts
 use Rattle.interleavings.specs.Count.{countRefused}
 use Rattle.interleavings.specs.declared.Next.{Next}

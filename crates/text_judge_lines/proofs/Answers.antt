@@ -14,8 +14,8 @@ use Rattle.log_order.specs.Chains.{At}
 use Rattle.log_conflicts.specs.Conflicts.{Conflicting}
 use Rattle.log_conflicts.specs.Judge.{refused, named, Names, names-first, names-none, Answers, refuses, judges, AnswersTold, wrong-version, right-version}
 use Rattle.answers.specs.Answer.{Answer}
-use Rattle.log_decoding.specs.declared.Columns.{Columns}
-use Rattle.log_decoding.specs.inner.Columns.{ReadAt}
+use Rattle.log_packing.specs.declared.Columns.{Columns}
+use Rattle.log_packing.specs.inner.Columns.{ReadAt}
 use Rattle.text_record_lines.specs.inner.Columns.{recordOf}
 use Rattle.text.specs.inner.Wrote.{Wrote}
 use Rattle.text.proofs.Added.{added-as, added-whole}

@@ -17,9 +17,9 @@ use Rattle.log_order.specs.Chains.{At, Chain}
 use Rattle.log_order.proofs.Past.{at-within}
 use Rattle.log_conflicts.specs.Conflicts.{Conflict, Conflicting}
 use Rattle.log_records.proofs.RoundTrip.{length-log}
-use Rattle.log_decoding.specs.declared.Columns.{Columns}
-use Rattle.log_decoding.specs.inner.Columns.{ReadAt}
-use Rattle.log_decoding.proofs.Decoded.{kind-is-kind}
+use Rattle.log_packing.specs.declared.Columns.{Columns}
+use Rattle.log_packing.specs.inner.Columns.{ReadAt}
+use Rattle.log_packing.proofs.Decoded.{kind-is-kind}
 use Rattle.log_clocks.specs.inner.Rows.{Row, clockOf}
 use Rattle.log_arrows.specs.inner.Newest.{Heard, Newest}
 use Rattle.log_arrows.proofs.Chains.{chain-before, chain-on, thread-chain}

@@ -26,8 +26,8 @@ fn put_named(area: &mut [u8], version: usize, log: &[u8], later: usize) -> usize
     ensures { λ r. ⌜ WroteConflict (versionOf version) (now (log .entry)) later (now (area .entry)) (now (area .exit)) r ⌝ }
 {
     let earlier = search::last_conflict(version, log, later);
-    let first = log_decoding::columns_at(log, earlier);
-    let second = log_decoding::columns_at(log, later);
+    let first = log_packing::columns_at(log, earlier);
+    let second = log_packing::columns_at(log, later);
     text_race_lines::put_conflict(area, 0, earlier, first, later, second)
 }
 

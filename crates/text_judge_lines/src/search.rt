@@ -6,9 +6,9 @@ ghost use Rattle.format.specs.Version.{versionOf};
 ghost use Rattle.log_records.specs.Packed.{kindOf};
 ghost use Rattle.log_records.specs.Record.{isPlain};
 ghost use Rattle.log_order.specs.Accesses.{isWrite};
-ghost use Rattle.log_decoding.specs.inner.Columns.{Narrow};
+ghost use Rattle.log_packing.specs.inner.Columns.{Narrow};
 ghost use Rattle.text_judge_lines.specs.inner.Search.{conflictTest, Named, LastOf};
-use log_decoding::Columns;
+use log_packing::Columns;
 use log_records::kind;
 
 // A plain write, also one that lacks its key.
@@ -51,11 +51,11 @@ pub fn last_conflict(version: usize, log: &[u8], later: usize) -> usize
     let mut rows = [none; 4096];
     log_arrows::heard::rows(version, log, &mut rows);
     let row = rows[later];
-    let access = log_decoding::columns_at(log, later);
+    let access = log_packing::columns_at(log, later);
     let mut index = later;
     while 0 < index {
         index -= 1;
-        let columns = log_decoding::columns_at(log, index);
+        let columns = log_packing::columns_at(log, index);
         let thread = columns.thread;
         let heard = index < row[thread] as usize;
         if conflict(columns, access) & !heard {

@@ -5,7 +5,7 @@ use mathlib.Core.Path.{_≡_, refl, sym, ap}
 use Rattle.format.proofs.Ranges.{by-range}
 use Rattle.log_records.specs.Record.{Kind, new}
 use Rattle.log_records.specs.Packed.{kindOf}
-use Rattle.log_decoding.specs.declared.Columns.{Columns}
+use Rattle.log_packing.specs.declared.Columns.{Columns}
 use Rattle.text_record_lines.specs.inner.Columns.{recordOf}
 use Rattle.text_move_words.specs.Words.{recordWordsBy, recordWords}
 

@@ -2,12 +2,12 @@
 ghost use Prim.Native.Nat.{_+_, _≤_};
 ghost use mathlib.Core.List.{_++_};
 ghost use lib.ListN.{length};
-ghost use Rattle.log_decoding.specs.inner.Columns.{Narrow};
+ghost use Rattle.log_packing.specs.inner.Columns.{Narrow};
 ghost use Rattle.text_record_lines.specs.inner.Columns.{recordOf};
 ghost use Rattle.text.specs.Text.{ascii, decimal};
 ghost use Rattle.text.specs.inner.Wrote.{Wrote};
 ghost use Rattle.text_move_words.specs.Words.{recordWords};
-use log_decoding::Columns;
+use log_packing::Columns;
 use log_records::kind;
 
 // A word with a field or a thread, and its object.

@@ -17,6 +17,7 @@ use Rattle.log_records.specs.Packed.{logOf}
 use Rattle.log_records.proofs.RoundTrip.{logOf-bytesOf}
 use Rattle.log_order.specs.Chains.{Unordered}
 use Rattle.rules.specs.Run as run
+use Rattle.rules.specs.Run.{log}
 use Rattle.rules.specs.Play as play
 use Rattle.rules.specs.Play.{scheduleRefusal, playRefusal, played, playedBy, areaAfter, runOf}
 use Rattle.rules.proofs.TidyRuns.{tidy-play}
@@ -28,7 +29,7 @@ use Rattle.play.proofs.Ran.{not-refused, ran-is, passes, outcome-is, stop-is, r
 use Rattle.agreement.proofs.Agreed.{agreement}
 use Rattle.charge.proofs.Charged.{long-area}
 use Rattle.answers.specs.Answer.{Answer}
-use Rattle.log_schedule_writer.specs.inner.Kept.{HasLast}
+use Rattle.log_last_write.specs.inner.LastWrite.{HasLast}
 use Rattle.text.specs.inner.Wrote.{Wrote}
 use Rattle.text.proofs.Added.{added-as, added-whole}
 use Rattle.text_record_lines.specs.Lines.{recordLines}
@@ -65,11 +66,11 @@ module _ (plan schedule lent area : List ℕ) (p : Played) (h : answered p ≡ p
     none-refused : scheduleRefusal plan schedule ≡ none
     none-refused = sym (long-area plan schedule lent long) ∙ not-refused plan schedule lent (outcomeOf (p .outcome)) (ran-is plan schedule lent p h e)
 
-    log-is : logOf (take (n - 0) after) ≡ runOf plan schedule .log
+    log-is : logOf (take (n - 0) after) ≡ log (runOf plan schedule)
     unfolding runOf
     log-is =
         ap logOf (begins plan schedule lent p h e after left n q)
-        ∙ logOf-bytesOf (runOf plan schedule .log)
+        ∙ logOf-bytesOf (log (runOf plan schedule))
         (tidy-play (programOf plan) (well-formed plan (passes plan schedule lent p h e .plan-passes)) schedule .all-tidy)
 
     shots-are :
@@ -80,7 +81,7 @@ module _ (plan schedule lent area : List ℕ) (p : Played) (h : answered p ≡ p
         ap
         (λ (L : List Record). recordLines 0 L ++ outcomeLine (stopOf (p .outcome .stop)) (p .outcome .picks) (p .outcome .moves)
         (p .outcome .records)) log-is
-        ∙ ap (λ (o : run.Outcome). recordLines 0 (runOf plan schedule .log) ++ outcomeLine (o .stop) (o .picks) (o .moves) (o .records))
+        ∙ ap (λ (o : run.Outcome). recordLines 0 (log (runOf plan schedule)) ++ outcomeLine (o .stop) (o .picks) (o .moves) (o .records))
         (outcome-is plan schedule lent p h e)
 
     -- of a run that raced
@@ -94,10 +95,10 @@ module _ (plan schedule lent area : List ℕ) (p : Played) (h : answered p ≡ p
                 (passes plan schedule lent p h e .few) .recorded raced,
           )
 
-      last-is : suc (p .outcome .records - 1) ≡ length (runOf plan schedule .log)
+      last-is : suc (p .outcome .records - 1) ≡ length (log (runOf plan schedule))
       last-is = omega (arith, recorded, records-are plan schedule lent p h e)
 
-      unordered : Unordered (programOf plan .version) (runOf plan schedule .log) (p .outcome .records - 1)
+      unordered : Unordered (programOf plan .version) (log (runOf plan schedule)) (p .outcome .records - 1)
       unordered =
           raced-unordered (agreement plan schedule (passes plan schedule lent p h e .plan-passes) (passes plan schedule lent p h e .few)) raced
           (p .outcome .records - 1) last-is

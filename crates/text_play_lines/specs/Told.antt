@@ -9,7 +9,7 @@ use Rattle.format.specs.Refusal.{Refusal}
 use Rattle.format.specs.Version.{Version}
 use Rattle.plan_packed.specs.Trees.{programOf}
 use Rattle.log_order.specs.Chains.{Unordered}
-use Rattle.rules.specs.Run.{race, Run}
+use Rattle.rules.specs.Run.{race, Run, instances, log}
 use Rattle.rules.specs.Play.{scheduleRefusal, runOf}
 use Rattle.answers.specs.Answer.{Answer}
 use Rattle.text_record_lines.specs.Lines.{recordLines}
@@ -18,14 +18,14 @@ use Rattle.text_race_lines.specs.Lines.{unorderedLines}
 
 -- the shot list of a run: a line for each record, and the last line (document 01, "Shot list")
 unfoldable pub shotLines : Run → List ℕ
-unfolding recordLines outcomeLine
-shotLines r = recordLines 0 (r .log) ++ outcomeLine (r .stop) (r .picks) (length (r .instances)) (length (r .log))
+unfolding recordLines outcomeLine log instances
+shotLines r = recordLines 0 (log r) ++ outcomeLine (r .stop) (r .picks) (length (instances r)) (length (log r))
 
 -- the text of a run, by the chains of a version: the shot list; and where the run stopped for want of a key, the last record and the last write of its
 -- field, from which no chain leads to it
 pub data RunTold (v : Version) (r : Run) : List ℕ → Type 0 where
   no-race : (r .stop ≡ race → ⊥) → RunTold v r (shotLines r)
-  races : {j : ℕ} → r .stop ≡ race → suc j ≡ length (r .log) → (u : Unordered v (r .log) j) → RunTold v r (shotLines r ++ unorderedLines u)
+  races : {j : ℕ} → r .stop ≡ race → suc j ≡ length (log r) → (u : Unordered v (log r) j) → RunTold v r (shotLines r ++ unorderedLines u)
 
 -- the answer and the lent area afterwards. An area of 131,072 bytes or more has room for every text, and keeps its old bytes after it; a shorter one stays as
 -- it was, and the answer is 0

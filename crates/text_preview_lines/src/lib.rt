@@ -46,7 +46,7 @@ fn put_recorded(area: &mut [u8], pick: usize, bytes: RecordBytes, end: &[u8]) ->
     ensures { λ r. ⌜ Wrote (now (area .entry)) 0 (phrase "thread " pick ++ (recordWords (recordOf bytes) ++ now (end .entry))) (now (area .exit)) r ⌝ }
 {
     let packed = [bytes.high, bytes.middle, bytes.low];
-    let columns = log_decoding::columns_at(&packed, 0);
+    let columns = log_packing::columns_at(&packed, 0);
     let at = text_phrases::put_phrase(area, 0, b"thread ", pick);
     let at = text_move_words::put_move(area, at, columns);
     text::put_word(area, at, end)

@@ -11,10 +11,10 @@ use Rattle.log_records.specs.Packed.{recordAt, recordCount, logOf}
 use Rattle.log_records.proofs.RoundTrip.{log-element, length-log}
 use Rattle.log_order.specs.Chains.{At, LastWrite, Unordered}
 use Rattle.log_order.proofs.Past.{at-within}
-use Rattle.log_decoding.specs.declared.Columns.{Columns}
-use Rattle.log_decoding.specs.inner.Columns.{ReadAt}
+use Rattle.log_packing.specs.declared.Columns.{Columns}
+use Rattle.log_packing.specs.inner.Columns.{ReadAt}
 use Rattle.text_record_lines.specs.inner.Columns.{recordOf}
-use Rattle.log_schedule_writer.specs.inner.Kept.{IsLast, HasLast}
+use Rattle.log_last_write.specs.inner.LastWrite.{IsLast, HasLast}
 use Rattle.text_race_lines.specs.Lines.{lackLine, apartLine, lackLines, unorderedLines}
 
 -- one record at an index

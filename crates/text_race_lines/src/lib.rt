@@ -6,7 +6,7 @@ ghost use Rattle.text.specs.inner.Wrote.{Wrote};
 ghost use Rattle.text_record_lines.specs.inner.Columns.{recordOf};
 ghost use Rattle.text_race_lines.specs.Lines.{does, deed, apartLine, lackLine, accessPart, otherPart, conflictLines};
 ghost use Rattle.text_race_lines.specs.inner.Written.{RaceRoom, WroteUnordered, ConflictRoom};
-use log_decoding::Columns;
+use log_packing::Columns;
 use log_records::kind;
 
 // What a thread does by a plain access.
@@ -60,9 +60,9 @@ pub fn put_unordered(area: &mut [u8], at: usize, log: &[u8], failing: usize) -> 
     requires { ⌜ RaceRoom (now log) failing (now area) at ⌝ }
     ensures { λ r. ⌜ WroteUnordered (now (log .entry)) failing (now (area .entry)) at (now (area .exit)) r ⌝ }
 {
-    let last = log_schedule_writer::last_write(log, failing);
-    let write = log_decoding::columns_at(log, last);
-    let access = log_decoding::columns_at(log, failing);
+    let last = log_last_write::last_write(log, failing);
+    let write = log_packing::columns_at(log, last);
+    let access = log_packing::columns_at(log, failing);
     let at = put_lack(area, at, last, write, access);
     put_apart(area, at, last, failing)
 }

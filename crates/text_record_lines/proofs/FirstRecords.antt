@@ -10,8 +10,8 @@ use lib.Seq.{take-suc}
 use Rattle.log_records.specs.Record.{Record}
 use Rattle.log_records.specs.Packed.{recordAt, recordCount, logOf}
 use Rattle.log_records.proofs.RoundTrip.{length-log, log-element}
-use Rattle.log_decoding.specs.declared.Columns.{Columns}
-use Rattle.log_decoding.specs.inner.Columns.{Narrow, ReadAt}
+use Rattle.log_packing.specs.declared.Columns.{Columns}
+use Rattle.log_packing.specs.inner.Columns.{Narrow, ReadAt}
 use Rattle.text_record_lines.specs.Lines.{recordLine}
 use Rattle.text_record_lines.specs.inner.Columns.{recordOf}
 use Rattle.text_record_lines.proofs.LineParts.{record-short}

@@ -5,7 +5,7 @@ ghost use Rattle.log_records.specs.Packed.{kindOf};
 ghost use Rattle.text.specs.inner.Wrote.{Wrote};
 ghost use Rattle.text_record_lines.specs.Lines.{kindWord, recordLine};
 ghost use Rattle.text_record_lines.specs.inner.Columns.{recordOf};
-use log_decoding::Columns;
+use log_packing::Columns;
 use log_records::kind;
 
 // The word of a kind of access, or new.

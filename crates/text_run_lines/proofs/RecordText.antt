@@ -8,8 +8,8 @@ use lib.ListN.{length}
 use Rattle.format.proofs.BitLaws.{bits-below}
 use Rattle.log_records.specs.Record.{Record}
 use Rattle.log_records.specs.Packed.{recordAt, recordsFrom}
-use Rattle.log_decoding.specs.declared.Columns.{Columns}
-use Rattle.log_decoding.specs.inner.Columns.{ReadAt}
+use Rattle.log_packing.specs.declared.Columns.{Columns}
+use Rattle.log_packing.specs.inner.Columns.{ReadAt}
 use Rattle.text_record_lines.specs.Lines.{recordLine, recordLines}
 use Rattle.text_record_lines.specs.inner.Columns.{recordOf}
 use Rattle.text_record_lines.proofs.LineParts.{record-short}

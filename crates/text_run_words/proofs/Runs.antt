@@ -11,6 +11,7 @@ use Rattle.plan_refusals.specs.declared.Checked.{Checked}
 use Rattle.plan_refusals.specs.declared.Checked.the-variants as checked
 use Rattle.log_records.specs.Packed.{bytesOf}
 use Rattle.log_records.proofs.RoundTrip.{length-bytes}
+use Rattle.rules.specs.Run.{log}
 use Rattle.rules.specs.Play as rules
 use Rattle.rules.specs.Play.{scheduleRefusal, playRefusal, played, playedBy, areaAfter, areaBy, runOf}
 use Rattle.play.specs.declared.outcome.Played.{Played}
@@ -98,9 +99,9 @@ module _ (plan schedule : List ℕ) (pick : ℕ) (area : List ℕ) (long : 200 �
 -- ---- a log
 
 module _ (plan schedule area : List ℕ) (p : Played) (h : answered p ≡ played plan schedule area) (long : 12288 ≤ length area) where
-  by-play : {o : Option Refusal} → playRefusal plan schedule area ≡ o → textBy o (bytesOf (runOf plan schedule .log)) ≡ logText plan schedule
+  by-play : {o : Option Refusal} → playRefusal plan schedule area ≡ o → textBy o (bytesOf (log (runOf plan schedule))) ≡ logText plan schedule
   unfolding logText
-  by-play e = ap (λ (y : Option Refusal). textBy y (bytesOf (runOf plan schedule .log))) (sym e ∙ long-area plan schedule area long)
+  by-play e = ap (λ (y : Option Refusal). textBy y (bytesOf (log (runOf plan schedule)))) (sym e ∙ long-area plan schedule area long)
 
   pub log-refused : (k i : ℕ) → p .checked ≡ checked.Refused k i
       → (refusalLines (record { number = k; place = i }) ≡ logText plan schedule) × (areaAfter plan schedule area ≡ area)
@@ -128,9 +129,9 @@ module _ (plan schedule area : List ℕ) (p : Played) (h : answered p ≡ played
         → Wrote area 0 (logText plan schedule) after n
     unfolding textBy
     log-told n q after left =
-        let bytes = bytesOf (runOf plan schedule .log) in
+        let bytes = bytesOf (log (runOf plan schedule)) in
         let ran = ran-is plan schedule area p h e in
         let none-refused = not-refused plan schedule area (outcomeOf (p .outcome)) ran in
-        let count : n ≡ length bytes = omega (arith, q, records-are plan schedule area p h e, length-bytes (runOf plan schedule .log)) in
+        let count : n ≡ length bytes = omega (arith, q, records-are plan schedule area p h e, length-bytes (log (runOf plan schedule))) in
         added-as (by-play none-refused)
         (overwritten count (omega (arith, q, log-few)) (left ∙ ran-area plan schedule area (outcomeOf (p .outcome)) ran))

@@ -6,6 +6,7 @@ use mathlib.Core.Option.{some, none}
 use Rattle.format.specs.Refusal.{Refusal}
 use Rattle.plan_packed.specs.Trees.{programOf}
 use Rattle.log_records.specs.Packed.{bytesOf}
+use Rattle.rules.specs.Run.{log}
 use Rattle.rules.specs.Play.{scheduleRefusal, runOf}
 use Rattle.preview.specs.Preview as preview
 use Rattle.preview.specs.Preview.{Previewed, previewed}
@@ -27,8 +28,8 @@ threadsText plan schedule = textBy (scheduleRefusal plan schedule) (statesText p
 
 -- log: the run's records, packed
 unfoldable pub logText : List ℕ → List ℕ → List ℕ
-unfolding textBy scheduleRefusal bytesOf runOf
-logText plan schedule = textBy (scheduleRefusal plan schedule) (bytesOf (runOf plan schedule .log))
+unfolding textBy scheduleRefusal bytesOf runOf log
+logText plan schedule = textBy (scheduleRefusal plan schedule) (bytesOf (log (runOf plan schedule)))
 
 -- preview: the line of what the pick would do
 unfoldable pub previewedText : ℕ → Previewed → List ℕ

@@ -6,7 +6,7 @@ use mathlib.Core.List.{List, [], _∷_, _++_, append-assoc}
 use lib.ListN.{length, length-append}
 use Rattle.text.specs.Text.{decimal}
 use Rattle.text.proofs.Decimals.{decimal-digit, decimal-more}
-use Rattle.text_sample_lines.specs.inner.Shown.{lastDigit}
+use Rattle.text_sample_lines.specs.inner.LineEnds.{lastDigit}
 
 -- ---- the digits
 

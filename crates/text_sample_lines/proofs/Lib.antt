@@ -1,5 +1,5 @@
 pub mod Samples
 pub mod Digits
 pub mod Digital
-pub mod ShownBits
+pub mod LineEnds
 pub mod LineParts

@@ -10,26 +10,17 @@ use Rattle.log_records.specs.Record.{Kind, new, read, write, readv, writev, acq
 use Rattle.text.specs.Text.{decimal}
 use Rattle.text.proofs.Decimals.{decimal-digit}
 use Rattle.text_sample_lines.specs.DataFile.{oneIfAcquire, lastOf, digital, commaLine, digitalsFrom, sampleLine}
-use Rattle.text_sample_lines.specs.inner.Shown.{bitOf, Shown, shownTo, lineOf}
-use Rattle.text_sample_lines.proofs.Digits.{one-length}
-use Rattle.text_sample_lines.proofs.ShownBits.{bit-below}
+use Rattle.text_sample_lines.specs.inner.LineEnds.{valuesTo, endOf, lineOf}
+use Rattle.text_sample_lines.proofs.LineEnds.{end-length}
 
 -- ---- as the code writes it
 
-pub shown-length : (b n : ℕ) → length (shownTo b n) ≡ 2 * n
-unfolding shownTo
-shown-length b zero = refl
-shown-length b (suc n) = omega (arith, shown-length b n, length-append (shownTo b n) (44 ∷ (48 + bitOf b n) ∷ []))
-
-pub line-parts : (n b : ℕ) → ((((decimal n ++ (44 ∷ [])) ++ decimal ((n - 1) * 1000)) ++ shownTo b 32) ++ (13 ∷ [])) ++ (10 ∷ []) ≡ lineOf n b
+pub line-parts : (n : ℕ) (end : List ℕ) → ((decimal n ++ (44 ∷ [])) ++ decimal ((n - 1) * 1000)) ++ end ≡ lineOf n end
 unfolding lineOf
-line-parts n b = regrouped (decimal n) (decimal ((n - 1) * 1000)) (shownTo b 32)
-  where
-    regrouped : (x y z : List ℕ) → ((((x ++ (44 ∷ [])) ++ y) ++ z) ++ (13 ∷ [])) ++ (10 ∷ []) ≡ x ++ ((44 ∷ y) ++ (z ++ (13 ∷ 10 ∷ [])))
-    regrouped x y z = simp append-assoc
+line-parts n end = simp append-assoc
 
-pub line-length : (n b : ℕ) → length (lineOf n b) ≡ length (decimal n) + length (decimal ((n - 1) * 1000)) + 67
-line-length n b = omega (arith, shown-length b 32, simp length-append at (ap length (line-parts n b)))
+pub line-length : (n : ℕ) (end : List ℕ) → length (lineOf n end) ≡ length (decimal n) + length (decimal ((n - 1) * 1000)) + length end + 1
+line-length n end = omega (arith, simp length-append at (ap length (line-parts n end)))
 
 -- ---- as the document says it
 
@@ -76,50 +67,23 @@ digital-below o L = go (lastOf o L)
     go (some lacksRead) = omega arith
     go (some lacksWrite) = omega arith
 
-digitals-length : (o n : ℕ) (L : List Record) → length (behind (digitalsFrom o n L)) ≡ 2 * n
-unfolding digitalsFrom behind
-digitals-length o zero L = refl
-digitals-length o (suc n) L =
-    let l = digital-below o L in
-    omega (
-      arith,
-      digitals-length (suc o) n L,
-      one-length (digital o L) (omega arith),
-      length-append (44 ∷ decimal (digital o L)) (behind (digitalsFrom (suc o) n L)),
-    )
-
-comma-length : (w v : List ℕ) (ws : List (List ℕ)) → length (commaLine (w ∷ v ∷ ws)) ≡ length w + length v + length (behind ws) + 3
-unfolding behind
-comma-length w v ws =
-    omega (
-      arith,
-      ap length (comma-parts w (v ∷ ws)),
-      length-append w (((44 ∷ v) ++ behind ws) ++ (13 ∷ 10 ∷ [])),
-      length-append ((44 ∷ v) ++ behind ws) (13 ∷ 10 ∷ []),
-      length-append (44 ∷ v) (behind ws),
-    )
-
-pub sample-length : (L : List Record) (n : ℕ) → length (sampleLine L n) ≡ length (decimal n) + length (decimal ((n - 1) * 1000)) + 67
-unfolding sampleLine
-sample-length L n = omega (arith, comma-length (decimal n) (decimal ((n - 1) * 1000)) (digitalsFrom 0 32 (take n L)), digitals-length 0 32 (take n L))
-
-module _ (b : ℕ) (L : List Record) (S : Shown b L) where
-  digit-is : (o : ℕ) → suc o ≤ 32 → decimal (digital o L) ≡ (48 + bitOf b o) ∷ []
-  digit-is o h =
-      ap decimal (sym (S .bits o h)) ∙ decimal-digit (bitOf b o) (let l = bit-below b o in omega arith)
-
-  digitals-are : (n : ℕ) → n ≤ 32 → behind (digitalsFrom 0 n L) ≡ shownTo b n
-  unfolding digitalsFrom shownTo behind
-  digitals-are zero h = refl
-  digitals-are (suc n) h =
+module _ (L : List Record) where
+  values-are : (n : ℕ) → behind (digitalsFrom 0 n L) ≡ valuesTo n L
+  unfolding digitalsFrom valuesTo behind
+  values-are zero = refl
+  values-are (suc n) =
       ap behind (digitals-more 0 n L)
       ∙ behind-append (digitalsFrom 0 n L) (decimal (digital (0 + n) L) ∷ [])
-      ∙ ap₂ (λ (x y : List ℕ). x ++ y) (digitals-are n (omega arith)) (append-nil (44 ∷ decimal (digital (0 + n) L))
-      ∙ ap (λ (k : ℕ). 44 ∷ decimal (digital k L)) (zero-add n) ∙ ap (λ (l : List ℕ). 44 ∷ l) (digit-is n h))
+      ∙ ap₂ (λ (x y : List ℕ). x ++ y) (values-are n) (append-nil (44 ∷ decimal (digital (0 + n) L))
+      ∙ ap (λ (k : ℕ). 44 ∷ decimal (digital k L)) (zero-add n)
+      ∙ ap (λ (l : List ℕ). 44 ∷ l) (decimal-digit (digital n L) (let l = digital-below n L in omega arith)))
 
-pub line-is : (L : List Record) (n b : ℕ) → Shown b (take n L) → lineOf n b ≡ sampleLine L n
-unfolding lineOf sampleLine behind
-line-is L n b S =
+pub line-is : (L : List Record) (n : ℕ) → lineOf n (endOf (take n L)) ≡ sampleLine L n
+unfolding lineOf endOf sampleLine behind
+line-is L n =
     sym (comma-parts (decimal n) (decimal ((n - 1) * 1000) ∷ digitalsFrom 0 32 (take n L))
     ∙ ap (λ (l : List ℕ). decimal n ++ l) (append-assoc (44 ∷ decimal ((n - 1) * 1000)) (behind (digitalsFrom 0 32 (take n L))) (13 ∷ 10 ∷ []))
-    ∙ ap (λ (l : List ℕ). decimal n ++ ((44 ∷ decimal ((n - 1) * 1000)) ++ (l ++ (13 ∷ 10 ∷ [])))) (digitals-are b (take n L) S 32 (omega arith)))
+    ∙ ap (λ (l : List ℕ). decimal n ++ ((44 ∷ decimal ((n - 1) * 1000)) ++ (l ++ (13 ∷ 10 ∷ [])))) (values-are (take n L) 32))
+
+pub sample-length : (L : List Record) (n : ℕ) → length (sampleLine L n) ≡ length (decimal n) + length (decimal ((n - 1) * 1000)) + 67
+sample-length L n = omega (arith, ap length (line-is L n), line-length n (endOf (take n L)), end-length (take n L))

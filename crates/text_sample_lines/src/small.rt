@@ -3,7 +3,7 @@ ghost use Prim.Native.Nat.{_+_, _*_, _≤_, _<_};
 ghost use lib.ListN.{length};
 ghost use Rattle.text.specs.Text.{decimal};
 ghost use Rattle.text.specs.inner.Wrote.{Wrote};
-ghost use Rattle.text_sample_lines.specs.inner.Shown.{lastDigit};
+ghost use Rattle.text_sample_lines.specs.inner.LineEnds.{lastDigit};
 
 // The last digit of a number.
 fn put_last(area: &mut [u8], at: usize, number: usize) -> usize

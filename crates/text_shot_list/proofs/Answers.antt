@@ -10,6 +10,7 @@ use Rattle.plan_packed.proofs.Decoded.{well-formed}
 use Rattle.log_records.specs.Record.{Record}
 use Rattle.log_records.specs.Packed.{logOf}
 use Rattle.log_records.proofs.RoundTrip.{logOf-bytesOf}
+use Rattle.rules.specs.Run.{log}
 use Rattle.rules.specs.Play.{played, areaAfter, runOf}
 use Rattle.rules.proofs.TidyRuns.{tidy-play}
 use Rattle.play.specs.declared.outcome.Played.{Played}
@@ -22,9 +23,9 @@ use Rattle.text_shot_list.specs.Printed.{lentArea, answerText, playText}
 
 module _ (plan schedule : List ℕ) (p : Played) (h : answered p ≡ played plan schedule lentArea) where
   -- the text of any answer, by its refusal
-  text-is : (c : Checked) → p .checked ≡ c → answerText (runOf plan schedule .log) (answeredBy c (p .outcome)) ≡ playText plan schedule
+  text-is : (c : Checked) → p .checked ≡ c → answerText (log (runOf plan schedule)) (answeredBy c (p .outcome)) ≡ playText plan schedule
   unfolding answered playText
-  text-is c e = ap (λ (x : Checked). answerText (runOf plan schedule .log) (answeredBy x (p .outcome))) (sym e) ∙ ap (answerText (runOf plan schedule .log)) h
+  text-is c e = ap (λ (x : Checked). answerText (log (runOf plan schedule)) (answeredBy x (p .outcome))) (sym e) ∙ ap (answerText (log (runOf plan schedule))) h
 
   pub refused-text : (number place : ℕ) → p .checked ≡ checked.Refused number place
       → refusalLine (record { number = number; place = place }) ≡ playText plan schedule
@@ -32,11 +33,11 @@ module _ (plan schedule : List ℕ) (p : Played) (h : answered p ≡ played plan
   refused-text number place e = text-is (checked.Refused number place) e
 
   module _ (e : p .checked ≡ checked.Passed) (after : List ℕ) (left : after ≡ areaAfter plan schedule lentArea) where
-    log-is : (n : ℕ) → n ≡ 3 * p .outcome .records → logOf (take (n - 0) after) ≡ runOf plan schedule .log
+    log-is : (n : ℕ) → n ≡ 3 * p .outcome .records → logOf (take (n - 0) after) ≡ log (runOf plan schedule)
     unfolding runOf
     log-is n q =
         ap logOf (begins plan schedule lentArea p h e after left n q)
-        ∙ logOf-bytesOf (runOf plan schedule .log)
+        ∙ logOf-bytesOf (log (runOf plan schedule))
         (tidy-play (programOf plan) (well-formed plan (passes plan schedule lentArea p h e .plan-passes)) schedule .all-tidy)
 
     pub ran-text : (n : ℕ) → n ≡ 3 * p .outcome .records

@@ -13,8 +13,10 @@ use Rattle.format.specs.Bits.{bitAt, bitsAt}
 use Rattle.format.specs.Refusal.{Refusal, orElse, lowest, refuse, firstRefusal}
 use Rattle.plan_packed.specs.Check.{refusal}
 use Rattle.log_records.specs.Record.{Record}
+use Rattle.rules.specs.Run.{log}
 use Rattle.rules.specs.Play.{tooManyPicks, scheduleRefusal, playRefusal, played, playedBy, runOf}
-use Rattle.run_refusals.proofs.RefusalChain.{areaChecks, schedule-stages, play-stages}
+use Rattle.run_schedule_refusals.specs.inner.Checks.{areaChecks}
+use Rattle.run_refusals.proofs.RefusalChain.{schedule-stages, play-stages}
 use Rattle.text_refusal_lines.specs.Lines.{refusalLine}
 use Rattle.text_input_parts.specs.Input.{lengthRead, planRead, scheduleRead}
 use Rattle.text_input_parts.proofs.Parts.{cut-long, not-cut}
@@ -49,8 +51,8 @@ many-by plan schedule L none = refl
 many-text : (plan schedule : List ℕ) → 4096 < length schedule → playText plan schedule ≡ tooMany (refusal plan)
 unfolding playText played
 many-text plan schedule h =
-    ap (λ (o : Option Refusal). answerText (runOf plan schedule .log) (playedBy plan schedule o)) (many-refused plan schedule lentArea h)
-    ∙ many-by plan schedule (runOf plan schedule .log) (refusal plan)
+    ap (λ (o : Option Refusal). answerText (log (runOf plan schedule)) (playedBy plan schedule o)) (many-refused plan schedule lentArea h)
+    ∙ many-by plan schedule (log (runOf plan schedule)) (refusal plan)
 
 -- ---- what is read of an input and of its first bytes
 

@@ -5,6 +5,7 @@ use mathlib.Core.Bool.{cond}
 use mathlib.Core.List.{List, _++_}
 use lib.ListN.{length, replicate, drop}
 use Rattle.log_records.specs.Record.{Record}
+use Rattle.rules.specs.Run.{log}
 use Rattle.rules.specs.Play.{Played, refused, ran, played, runOf}
 use Rattle.text_record_lines.specs.Lines.{recordLines}
 use Rattle.text_refusal_lines.specs.Lines.{refusalLine}
@@ -23,8 +24,8 @@ answerText L (ran o) = recordLines 0 L ++ outcomeLine (o .stop) (o .picks) (o .m
 
 -- the text of a play
 unfoldable pub playText : List ℕ → List ℕ → List ℕ
-unfolding answerText runOf played lentArea
-playText plan schedule = answerText (runOf plan schedule .log) (played plan schedule lentArea)
+unfolding answerText runOf log played lentArea
+playText plan schedule = answerText (log (runOf plan schedule)) (played plan schedule lentArea)
 
 -- the whole text
 unfoldable pub printed : List ℕ → List ℕ

@@ -17,12 +17,12 @@ fn put_samples(area: &mut [u8], log: &[u8]) -> usize
     ensures { λ r. ⌜ Wrote (now (area .entry)) 0 (sampleLines (logOf (now (log .entry))) (recordCount (now (log .entry)))) (now (area .exit)) r ⌝ }
 {
     let mut at = 0;
-    let mut shown: u32 = 0;
+    let mut end = text_sample_lines::no_values();
     let mut index = 0;
     while index < log.len() / 3 {
-        let columns = log_decoding::columns_at(log, index);
-        shown = text_sample_lines::after_record(shown, columns);
-        at = text_sample_lines::put_sample(area, at, index + 1, shown);
+        let columns = log_packing::columns_at(log, index);
+        text_sample_lines::after_record(&mut end, columns);
+        at = text_sample_lines::put_sample(area, at, index + 1, &end);
         index += 1;
     }
     at

@@ -27,7 +27,7 @@ use Rattle.run_outcome.specs.declared.Stop as code-stop
 use Rattle.run_outcome.specs.declared.Stop.the-variants as stop
 use Rattle.play.specs.Answer.{stopOf}
 use Rattle.play.specs.inner.RunOn.{Given, MovesOn}
-use Rattle.run_engine.specs.declared.Ran.{Ran}
+use Rattle.run_tally.specs.declared.Ran.{Ran}
 use Rattle.answers.specs.Answer.{Answer}
 use Rattle.side_by_side.specs.Moves.{movesOf}
 use Rattle.side_by_side.specs.LeftOut.{leftOut}
@@ -39,7 +39,8 @@ use Rattle.log_schedule_writer.specs.inner.Kept.{Small}
 use Rattle.log_schedule_writer.specs.inner.WritesFrom as writes
 use Rattle.log_schedule_writer.specs.inner.WritesFrom.{RacedIn, WritesFrom}
 use Rattle.witness.specs.Witness.{noMissingKey, raceRefusal, Witnesses, refused, too-short, wrote}
-use Rattle.witness.specs.inner.Passing.{Loads, Passing}
+use Rattle.plan_left_out.specs.inner.Loads.{Loads}
+use Rattle.witness.specs.inner.Passing.{Passing}
 use Rattle.witness.proofs.Refusals.{by-16, by-none}
 
 -- a stop that is no race

@@ -24,7 +24,8 @@ use Rattle.plan_refusals.specs.declared.Checked.the-variants as checked
 use Rattle.run_outcome.specs.declared.Stop as code-stop
 use Rattle.run_outcome.specs.declared.Stop.the-variants as stop
 use Rattle.run_outcome.specs.declared.Outcome.{Outcome}
-use Rattle.run_refusals.proofs.RefusalChain.{pickChecks, schedule-stages, areaChecks, play-stages}
+use Rattle.run_schedule_refusals.specs.inner.Checks.{pickChecks, areaChecks}
+use Rattle.run_refusals.proofs.RefusalChain.{schedule-stages, play-stages}
 use Rattle.run_refusals.proofs.Passed.{scheduled}
 use Rattle.play.specs.declared.outcome.Played.{Played}
 use Rattle.play.specs.Answer.{stopOf, outcomeOf, answeredBy, answered}

@@ -1,26 +1,11 @@
 // The entry `witness` (document 02, E10): from a run that stopped for a missing key, a schedule after which the last write and the failing access stand side
 // by side.
-ghost use mathlib.Core.Path.{_≡_};
 ghost use Rattle.answers.specs.Answer.{answered};
-ghost use Rattle.side_by_side.specs.LeftOut.{leftOut};
 ghost use Rattle.witness.specs.Witness.{Witnesses};
-ghost use Rattle.witness.specs.inner.Passing.{Loads, Passing};
+ghost use Rattle.witness.specs.inner.Passing.{Passing};
 use answers::Answered;
-use plan_header::layout;
-use plan_operands::tags;
 use plan_refusals::Checked;
 use run_outcome::Stop;
-
-// The plan has version 0, or a wait among its terms.
-fn left_out(plan: &[u8], words: &[usize; 1024]) -> bool
-    requires { ⌜ Loads (now plan) (now words) ⌝ }
-    ensures { λ r. ⌜ r ≡ leftOut (now (plan .entry)) ⌝ }
-{
-    let count = layout::terms(plan);
-    let version = layout::version(plan);
-    let waits = plan_tag_search::occurs(words, count, tags::WAIT);
-    (version == 0) | waits
-}
 
 // Refusals 16 and 17 where nothing before them refuses, else what is written and its length, by one run with a record for every move, on arrays that
 // nobody else sees.
@@ -53,7 +38,7 @@ pub fn witness(plan: &[u8], schedule: &[u8], area: &mut [u8]) -> Answered
     if let Checked::Refused { number, place } = checked {
         return Answered::Refused { number, place };
     }
-    if left_out(plan, &words) {
+    if plan_left_out::left_out(plan, &words) {
         return Answered::Refused {
             number: 15,
             place: 0,

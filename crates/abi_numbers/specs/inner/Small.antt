@@ -4,7 +4,7 @@ use Prim.Native.Nat.{_≤_, _<_, _^_}
 use mathlib.Core.Option.{some, none}
 use Rattle.log_conflicts.specs.Judge.{Judged, refused, named}
 use Rattle.plan_refusals.specs.inner.Small.{SmallRefusal}
-use Rattle.interleavings.specs.Interleavings.{Next}
+use Rattle.listing_answers.specs.Interleavings.{Next}
 use Rattle.read.specs.Read.{Read}
 
 -- a judge's answer

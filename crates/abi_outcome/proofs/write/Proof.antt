@@ -1,6 +1,6 @@
 -- `abi_outcome::write` meets its contract. The invariant: with the threads that are left, the bytes are those of the first seven and all eight threads.
 -- Assumes nothing.
-use Rattle.abi_outcome.specs.declared.ThreadBytes.{ThreadBytes}
+use Rattle.abi_thread_bytes.specs.declared.ThreadBytes.{ThreadBytes}
 use Rattle.play.specs.Answer.{outcomeOf}
 use Prim.Native.Nat.{_+_, _-_, _≤_, _<_}
 use native.Mathlib.Omega.{arith}

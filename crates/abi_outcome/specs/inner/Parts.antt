@@ -3,7 +3,7 @@ use Prim.Native.Nat.{ℕ, _/_, _%_}
 use mathlib.Core.List.{List}
 use lib.ListN.{set}
 use Rattle.rules.specs.Run.{Stop}
-use Rattle.abi_outcome.specs.Bytes.{stopByte}
+use Rattle.abi_thread_bytes.specs.Bytes.{stopByte}
 
 -- the first seven bytes set
 unfoldable pub headBytes : List ℕ → Stop → ℕ → ℕ → ℕ → List ℕ

@@ -3,29 +3,10 @@ use Prim.Native.Nat.{_<_}
 use mathlib.Core.Path.{_≡_}
 use mathlib.Core.List.{List, [], _∷_}
 use lib.ListN.{length}
-use Rattle.rules.specs.Step.{Wait, Stuck}
 use Rattle.rules.specs.Run.{Status, Outcome}
 use Rattle.rules.specs.Play as play
 use Rattle.plan_refusals.specs.inner.Small.{SmallRefusal}
-
-abbrev pub SmallWait : Wait → Type 0
-SmallWait (Wait.forMonitor o) = o < 256
-SmallWait (Wait.forJoin o) = o < 256
-SmallWait (Wait.forNotify o) = o < 256
-
-abbrev pub SmallStuck : Stuck → Type 0
-SmallStuck (Stuck.missingField o f) = (o < 256) × (f < 256)
-SmallStuck (Stuck.notThread o) = o < 256
-SmallStuck (Stuck.notHeld o) = o < 256
-SmallStuck Stuck.noRule = Unit {0}
-
-abbrev pub SmallStatus : Status → Type 0
-SmallStatus Status.absent = Unit {0}
-SmallStatus (Status.finished v) = v < 256
-SmallStatus Status.ready = Unit {0}
-SmallStatus (Status.waiting w) = SmallWait w
-SmallStatus (Status.stuck r) = SmallStuck r
-SmallStatus (Status.lacking o f) = (o < 256) × (f < 256)
+use Rattle.abi_thread_bytes.specs.inner.Small.{SmallStatus}
 
 abbrev pub AllSmall : List Status → Type 0
 AllSmall [] = Unit {0}

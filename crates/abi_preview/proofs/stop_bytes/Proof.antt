@@ -1,6 +1,6 @@
 -- `abi_preview::stop_bytes` meets its contract: the byte of the stop, and two zeros. Assumes nothing.
 use mathlib.Core.Path.{ap}
-use Rattle.abi_outcome.specs.Bytes.{three}
+use Rattle.abi_thread_bytes.specs.Bytes.{three}
 use Prim.Native.Nat.{ℕ}
 use borrow.Author.Needs.{needs}
 use Rattle.abi_preview.proofs.stop_bytes.Statement.{statement}

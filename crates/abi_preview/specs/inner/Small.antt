@@ -3,8 +3,8 @@
 use Prim.Native.Nat.{ℕ}
 use mathlib.Core.List.{List, [], _∷_}
 use Rattle.plan_refusals.specs.inner.Small.{SmallRefusal}
-use Rattle.abi_outcome.specs.inner.Small.{SmallStatus}
-use Rattle.abi_outcome.specs.declared.ThreadBytes.{ThreadBytes}
+use Rattle.abi_thread_bytes.specs.inner.Small.{SmallStatus}
+use Rattle.abi_thread_bytes.specs.declared.ThreadBytes.{ThreadBytes}
 use Rattle.run_last_pick.specs.declared.RecordBytes.{RecordBytes}
 use Rattle.preview.specs.Preview.{Preview, Previewed}
 

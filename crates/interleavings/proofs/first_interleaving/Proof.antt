@@ -1,6 +1,7 @@
 -- `first_interleaving` meets its contract. Assumes nothing.
 use borrow.Author.Needs.{needs}
-use Rattle.interleavings.proofs.Answers.{first-refused, first-begins, first-over-bound, first-short, first-written}
+use Rattle.listing_answers.proofs.Answers.{first-refused, first-over-bound, first-short}
+use Rattle.interleavings.proofs.Answers.{first-begins, first-written}
 use Rattle.interleavings.proofs.first_interleaving.Statement.{statement}
 use Rattle.interleavings.proofs.first_interleaving.Tie as tie
 

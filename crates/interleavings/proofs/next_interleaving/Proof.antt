@@ -3,7 +3,8 @@ use borrow.Author.Needs.{needs}
 use borrow.Author.Tests.{not-true, not-false}
 use Rattle.plan_packed.specs.Trees.{programOf}
 use Rattle.listing.specs.Listed.{Listed}
-use Rattle.interleavings.proofs.Answers.{next-refused, given-plan, given-picks, next-over-bound, next-not-listed, next-short, next-followed}
+use Rattle.listing_answers.proofs.Answers.{next-refused, next-over-bound, next-not-listed, next-short}
+use Rattle.interleavings.proofs.Answers.{given-plan, given-picks, next-followed}
 use Rattle.interleavings.proofs.next_interleaving.Statement.{statement}
 use Rattle.interleavings.proofs.next_interleaving.Tie as tie
 

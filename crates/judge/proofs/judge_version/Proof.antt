@@ -33,11 +33,17 @@ short-requires c κs = (passed (c .before), c .if3 .taken)
 returns-3 : tie.Need-returns-3
 returns-3 c = search needs
 
-long-requires : tie.Need-long-requires
-long-requires c κs = passed (c .before)
+middle-requires : tie.Need-middle-requires
+middle-requires c κs = (passed (c .before .before), c .if4 .taken)
 
 returns-4 : tie.Need-returns-4
 returns-4 c = search needs
+
+long-requires : tie.Need-long-requires
+long-requires c κs = passed (c .before .before)
+
+returns-5 : tie.Need-returns-5
+returns-5 c = search needs
 
 pub judge-version-spec : {M : Type 1} → statement M
 judge-version-spec =
@@ -49,5 +55,7 @@ judge-version-spec =
     returns-2
     short-requires
     returns-3
+    middle-requires
+    returns-4
     long-requires
-    returns-4)
+    returns-5)

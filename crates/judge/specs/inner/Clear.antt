@@ -4,12 +4,12 @@ use mathlib.Core.Path.{_≡_}
 use mathlib.Core.List.{List}
 use lib.ListN.{length}
 use Rattle.log_clocks.specs.inner.Rows.{Row}
-use Rattle.log_effects.specs.inner.Rows.{placeRow}
-use Rattle.log_effects.specs.inner.Table.{Wide, clockAt}
+use Rattle.log_rows.specs.inner.Rows.{placeRow}
+use Rattle.log_row_stores.specs.inner.Table.{Sound, clockAt}
 
 -- rows for so many places, of the 1,024 that there are, all clocks 0
 pub record Clear (places : ℕ) (rows : List Row) : Type 0 where
   pub most : places ≤ 1024
   pub room : placeRow places + 2 < length rows
-  pub wide : Wide rows
+  pub sound : Sound rows
   pub zero : (q u : ℕ) → clockAt rows q u ≡ 0

@@ -4,7 +4,7 @@ use mathlib.Core.Path.{_≡_}
 use mathlib.Core.Bool.{_&&_, cond}
 use lib.Dec.{eqb}
 use Rattle.log_clocks.specs.inner.Rows.{Row, clockOf}
-use Rattle.log_decoding.specs.declared.Columns.{Columns}
+use Rattle.log_packing.specs.declared.Columns.{Columns}
 
 -- the row that a record with these columns hears or tells, by the kinds that do so of a monitor, of a volatile field and of the thread that the field names;
 -- else its thread's. Rows 0 to 31 are the threads', 32 to 63 the monitors', and from 64 on the volatile fields'.

@@ -14,9 +14,10 @@ none-yet : (own heard : Row) → false ≡ lowerOf 0 own heard
 unfolding lowerOf
 none-yet own heard = refl
 
-one-more : (own heard : Row) (n : ℕ) (found : Bool) → found ≡ lowerOf n own heard → (found || ltb (clockOf own n) (clockOf heard n)) ≡ lowerOf (n + 1) own heard
+one-more : (own heard : Row) (n : ℕ) (found late : Bool) → found ≡ lowerOf n own heard → late ≡ ltb (clockOf own n) (clockOf heard n)
+    → (found || late) ≡ lowerOf (n + 1) own heard
 unfolding lowerOf
-one-more own heard n found e = rw (add-one n, e)
+one-more own heard n found late e h = rw (add-one n, e, h)
 
 at-eight : (own heard : Row) (n : ℕ) (found : Bool) → n ≡ 8 → found ≡ lowerOf n own heard → found ≡ lowerOf 8 own heard
 at-eight own heard n found e h = h ∙ ap (λ (m : ℕ). lowerOf m own heard) e
@@ -30,17 +31,20 @@ abbrev μ-loop : tie.MeasureT-loop
 loop-holds : tie.Need-loop-holds Inv-loop μ-loop
 loop-holds c = (omega arith, none-yet _ _)
 
-mul-found : tie.Need-mul-found Inv-loop μ-loop
-mul-found c = search needs
+mul-less : tie.Need-mul-less Inv-loop μ-loop
+mul-less c = search needs
 
-array-read-found : tie.Need-array-read-found Inv-loop μ-loop
-array-read-found c = search needs
+array-read-less : tie.Need-array-read-less Inv-loop μ-loop
+array-read-less c = search needs
 
-mul-found-2 : tie.Need-mul-found-2 Inv-loop μ-loop
-mul-found-2 c = search needs
+mul-less-2 : tie.Need-mul-less-2 Inv-loop μ-loop
+mul-less-2 c = search needs
 
-array-read-found-2 : tie.Need-array-read-found-2 Inv-loop μ-loop
-array-read-found-2 c = search needs
+array-read-less-2 : tie.Need-array-read-less-2 Inv-loop μ-loop
+array-read-less-2 c = search needs
+
+less-requires : tie.Need-less-requires Inv-loop μ-loop
+less-requires c κs = let p = c .before .before .pre in (p .0 _, p .1 _)
 
 add-thread : tie.Need-add-thread Inv-loop μ-loop
 add-thread c = search needs
@@ -49,7 +53,7 @@ loop-less : tie.Need-loop-less Inv-loop μ-loop
 loop-less c = search needs
 
 loop-again : tie.Need-loop-again Inv-loop μ-loop
-loop-again c = (omega arith, one-more _ _ _ _ (c .before .loop .inv .1))
+loop-again c = (omega arith, one-more _ _ _ _ _ (c .before .before .loop .inv .1) (c .less .ensures))
 
 returns : tie.Need-returns Inv-loop μ-loop
 returns c = at-eight _ _ _ _ (omega arith) (c .before .loop .inv .1)
@@ -61,10 +65,11 @@ lower-spec =
     Inv-loop
     μ-loop
     loop-holds
-    mul-found
-    array-read-found
-    mul-found-2
-    array-read-found-2
+    mul-less
+    array-read-less
+    mul-less-2
+    array-read-less-2
+    less-requires
     add-thread
     loop-less
     loop-again

@@ -26,16 +26,16 @@ array-read-lesser : tie.Need-array-read-lesser Inv-loop μ-loop
 array-read-lesser c = search needs
 
 lesser-requires : tie.Need-lesser-requires Inv-loop μ-loop
-lesser-requires c κs = search needs
+lesser-requires c κs = let p = c .before .before .pre in (p .1 .0 _, p .1 .1)
 
-mul-higher : tie.Need-mul-higher Inv-loop μ-loop
-mul-higher c = search needs
+mul-greater : tie.Need-mul-greater Inv-loop μ-loop
+mul-greater c = search needs
 
-array-read-higher : tie.Need-array-read-higher Inv-loop μ-loop
-array-read-higher c = search needs
+array-read-greater : tie.Need-array-read-greater Inv-loop μ-loop
+array-read-greater c = search needs
 
-higher-requires : tie.Need-higher-requires Inv-loop μ-loop
-higher-requires c κs = search needs
+greater-requires : tie.Need-greater-requires Inv-loop μ-loop
+greater-requires c κs = let p = c .before .before .before .pre in (p .0 _, omega (arith, c .lesser .ensures, p .1 .1))
 
 mul-clocks : tie.Need-mul-clocks Inv-loop μ-loop
 mul-clocks c = search needs
@@ -55,8 +55,8 @@ loop-again c =
     let a = c .before .before .before .before .args in (
       omega arith,
       simp length-set (l .inv .1),
-      filled {A = ℕ} (l .clocks) (l .thread) (c .higher .result) 0 (λ (k x : ℕ). x ≡ max (clockOf (a .t1) k) (min (clockOf (a .t2) k) (a .most)))
-          (omega arith) (l .inv .2) (c .higher .ensures ∙ ap (max (clockOf (a .t1) (l .thread))) (c .before .lesser .ensures)),
+      filled {A = ℕ} (l .clocks) (l .thread) (c .greater .result) 0 (λ (k x : ℕ). x ≡ max (clockOf (a .t1) k) (min (clockOf (a .t2) k) (a .most)))
+          (omega arith) (l .inv .2) (c .greater .ensures ∙ ap (max (clockOf (a .t1) (l .thread))) (c .before .lesser .ensures)),
     )
 
 returns : tie.Need-returns Inv-loop μ-loop
@@ -72,9 +72,9 @@ raised-to-spec =
     mul-lesser
     array-read-lesser
     lesser-requires
-    mul-higher
-    array-read-higher
-    higher-requires
+    mul-greater
+    array-read-greater
+    greater-requires
     mul-clocks
     array-write-clocks
     add-thread

@@ -14,6 +14,10 @@ Row = List ℕ
 abbrev pub clockOf : Row → ℕ → ℕ
 clockOf r u = getD r u 0
 
+-- all its clocks are below 32,768: as signed numbers of 16 bits they are the same
+abbrev pub Low : Row → Type 0
+Low r = (u : ℕ) → clockOf r u < 32768
+
 -- a row raised by what it is told
 pub record Raised (row told r : Row) : Type 0 where
   pub wide : length r ≡ 8

@@ -4,7 +4,7 @@ use Prim.Native.Nat.{ℕ, _-_}
 use native.Mathlib.Omega.{arith}
 use mathlib.Core.Path.{_≡_, refl, subst as along}
 use borrow.Author.Needs.{needs}
-use Rattle.log_decoding.specs.inner.Columns.{ReadAt}
+use Rattle.log_packing.specs.inner.Columns.{ReadAt}
 use Rattle.log_marking.proofs.Pass.{Going, going-start, all-marked, going-next, drawn-below, fed-below}
 use Rattle.log_marking.proofs.mark.Statement.{statement}
 use Rattle.log_marking.proofs.mark.Tie as tie

@@ -2,7 +2,7 @@
 use Prim.Native.Nat.{ℕ, _+_, _*_}
 use mathlib.Core.Bool.{cond}
 use lib.Dec.{eqb}
-use Rattle.log_decoding.specs.declared.Columns.{Columns}
+use Rattle.log_packing.specs.declared.Columns.{Columns}
 
 -- the flags of an object's monitor and of its field f; thread q has flag q
 abbrev pub monitorRow : ℕ → ℕ

@@ -1,5 +1,5 @@
 -- `log_refusals::four_wrong` meets its contract. Assumes nothing.
-use Rattle.log_refusals.proofs.WrongRecords.{early-table}
+use Rattle.log_limits.proofs.Tables.{early-table}
 use lib.ListN.{length}
 use native.Mathlib.Omega.{arith}
 use Prim.Native.Nat.{_+_, _/_}

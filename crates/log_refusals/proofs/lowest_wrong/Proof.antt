@@ -1,8 +1,8 @@
 -- `log_refusals::lowest_wrong` meets its contract. The invariant: no record so far is wrong. The measure is the count of records left. Assumes nothing.
 use Rattle.log_records.specs.Refusals.{wrongRecord}
 use Rattle.log_records.specs.Packed.{recordCount}
-use Rattle.log_refusals.specs.inner.Limits.{leastBits, zeroBits}
-use Rattle.log_refusals.proofs.WrongRecords.{early-table, last-table}
+use Rattle.log_limits.specs.inner.Limits.{leastBits, zeroBits}
+use Rattle.log_limits.proofs.Tables.{early-table, last-table}
 use borrow.Author.Count.{below-more}
 use lib.ListN.{length}
 use mathlib.Core.Bool.{true, false}
@@ -25,13 +25,24 @@ Inv-loop log count early last zero i₀ i =
 abbrev μ-loop : tie.MeasureT-loop
 μ-loop log count early last zero i₀ i = count - i
 
+least-early-requires : tie.Need-least-early-requires Inv-loop μ-loop
+least-early-requires c κs = search needs
+
+least-last-requires : tie.Need-least-last-requires Inv-loop μ-loop
+least-last-requires c κs = search needs
+
+zero-bits-requires : tie.Need-zero-bits-requires Inv-loop μ-loop
+zero-bits-requires c κs = search needs
+
 right-fours-requires : tie.Need-right-fours-requires Inv-loop μ-loop
-unfolding leastBits
-right-fours-requires c κs = (refl, refl)
+right-fours-requires c κs = (c .before .before .before .before .least-early .ensures, c .before .before .zero-bits .ensures)
 
 loop-holds : tie.Need-loop-holds Inv-loop μ-loop
-unfolding leastBits recordCount
-loop-holds c = let start = c .right-fours .ensures in (start .within, refl, refl, refl, refl, start .right)
+unfolding recordCount
+loop-holds c =
+    let start = c .right-fours .ensures in
+    let zero = c .before .before .before in
+    (start .within, refl, zero .before .before .least-early .ensures, zero .before .least-last .ensures, zero .zero-bits .ensures, start .right)
 
 add-loop : tie.Need-add-loop Inv-loop μ-loop
 add-loop c = search needs
@@ -39,7 +50,7 @@ add-loop c = search needs
 wrong-record-requires : tie.Need-wrong-record-requires Inv-loop μ-loop
 wrong-record-requires c κs =
     let at = c .before .before .before .loop in
-    let n : ℕ = length (c .before .before .before .before .before .before .before .before .args .log .now) / 3 in
+    let n : ℕ = length (c .before .before .before .before .before .before .before .before .before .before .before .args .log .now) / 3 in
     let more = c .before .before .loop-test .taken in
     (omega (arith, at .inv .1, more), (early-table _ (at .index) n (at .inv .2) (omega (arith, at .inv .1, more)), at .inv .4))
 
@@ -70,7 +81,7 @@ returns-2 c = record { within = omega arith; here = λ h. absurd (omega arith); 
 wrong-record-requires-2 : tie.Need-wrong-record-requires-2 Inv-loop μ-loop
 wrong-record-requires-2 c κs =
     let at = c .before .before .before .before .loop in
-    let n : ℕ = length (c .before .before .before .before .before .before .before .before .before .args .log .now) / 3 in
+    let n : ℕ = length (c .before .before .before .before .before .before .before .before .before .before .before .before .args .log .now) / 3 in
     let done = c .before .before .before .loop-test .left in
     let some = c .before .before .if2 .left in
     (omega (arith, at .inv .1, some), (last-table _ (at .index) n (at .inv .3) (omega (arith, at .inv .1, done, some)), at .inv .4))
@@ -97,6 +108,9 @@ lowest-wrong-spec =
     (tie.spec
     Inv-loop
     μ-loop
+    least-early-requires
+    least-last-requires
+    zero-bits-requires
     right-fours-requires
     loop-holds
     add-loop

@@ -22,6 +22,11 @@ add-bits-2 c =
     let read = c .before .before .before .columns-at .ensures in
     omega (arith, spare-below _ _ _ read, read .narrow .field-below, read .narrow .value-below)
 
+cast-bits : tie.Need-cast-bits
+cast-bits c =
+    let read = c .before .before .before .columns-at .ensures in
+    omega (arith, spare-below _ _ _ read, read .narrow .field-below, read .narrow .value-below)
+
 mul-low : tie.Need-mul-low
 mul-low c = search needs
 
@@ -49,6 +54,7 @@ wrong-record-spec =
     add-bits
     mul-bits-2
     add-bits-2
+    cast-bits
     mul-low
     element-copy-out-low
     mul-set

@@ -49,11 +49,16 @@ layouts-requires c κs = search needs
 name-roots-requires : tie.Need-name-roots-requires
 name-roots-requires c κs = (shown (c .before .before), refl)
 
+hand-to-roots-requires : tie.Need-hand-to-roots-requires
+hand-to-roots-requires c κs = (shown (c .before .before .before .before), refl)
+
 load-requires : tie.Need-load-requires
 load-requires c κs =
-    let r = c .before .before .before in
-    let h = shown (r .before .before .before) in
-    (r .before .before .layouts .ensures, (h, (r .before .before .before .before .before .before .before .before .before .pre, r .name-roots .ensures)))
+    let s = c .before .before .before .before in
+    let r = s .before .before in
+    let y = r .before .before in
+    let z = y .before .before .before .before .before .before .before in
+    (y .layouts .ensures, (shown (y .before), (z .pre, (r .name-roots .ensures, s .hand-to-roots .ensures))))
 
 refused-requires : tie.Need-refused-requires
 refused-requires c κs = search needs
@@ -61,7 +66,7 @@ refused-requires c κs = search needs
 returns-2 : tie.Need-returns-2
 returns-2 c =
     let l = c .before .before in
-    let t = l .before .before .before .before .before .before .before in
+    let t = l .before .before .before .before .before .before .before .before .before .before in
     let b = t .before .before .before .before .before .before .args .plan .now in
     let m4 : lowest (wrongTerm b) (terms b) ≡ some (l .load .result) =
     struck (wrongTerm b) _ (terms b) _ (t .terms .ensures) (l .load .ensures .0) (c .before .if1 .taken) in (
@@ -71,18 +76,20 @@ returns-2 c =
 
 check-trees-requires : tie.Need-check-trees-requires
 check-trees-requires c κs =
-    let i = c .before .before .before in
+    let i = c .before .before .before .before in
     let l = i .before in
-    let h = shown (l .before .before .before .before .before .before .before) in (
+    let y = l .before .before .before .before .before .before .before .before .before in
+    let h = shown (y .before) in
+    let e = l .load .ensures .1 in (
       make-right _ _ _ _ h (l .load .ensures .0) (i .if1 .left),
-      (l .load .ensures .1 .0 (i .if1 .left), (l .before .before .before .before .before .before .layouts .ensures, l .load .ensures .1 .1 (i .if1 .left))),
+      (e .0 (i .if1 .left), (y .layouts .ensures, (e .1 .0 (i .if1 .left), e .1 .1 (i .if1 .left)))),
     )
 
 returns-3 : tie.Need-returns-3
 returns-3 c =
-    let i = c .before .before .before .before in
+    let i = c .before .before .before .before .before in
     let l = i .before in
-    let t = l .before .before .before .before .before .before .before in
+    let t = l .before .before .before .before .before .before .before .before .before .before in
     let b = t .before .before .before .before .before .before .args .plan .now in
     let m4 : lowest (wrongTerm b) (terms b) ≡ none = missed (wrongTerm b) _ (terms b) _ (t .terms .ensures) (l .load .ensures .0) (i .if1 .left) in (
       by-trees b _ (t .before .before .before .before .check-header .ensures) (t .before .before .enum-told .given .1) _ m4 (c .check-trees .ensures),
@@ -101,6 +108,7 @@ load-spec =
     terms-requires
     layouts-requires
     name-roots-requires
+    hand-to-roots-requires
     load-requires
     refused-requires
     returns-2

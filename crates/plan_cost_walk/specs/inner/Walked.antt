@@ -63,3 +63,11 @@ unfoldable mutual
   pub walkedᵃ : Bool → (ℕ → ℕ) → ℕ → Arguments → ℕ
   walkedᵃ b T n Arguments.end = n
   walkedᵃ b T n (Arguments.argument e es) = walkedᵃ b T (walked b T n e) es
+
+-- two expressions, one after the other
+abbrev pub inTurn : Bool → (ℕ → ℕ) → ℕ → Expression → Expression → ℕ
+inTurn b T n e e′ = walked b T (walked b T n e) e′
+
+-- one of two expressions
+abbrev pub either : Bool → (ℕ → ℕ) → ℕ → Expression → Expression → ℕ
+either b T n e e′ = branches b (walked b T n e) (walked b T n e′)

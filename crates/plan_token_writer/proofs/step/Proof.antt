@@ -4,22 +4,25 @@ use native.Mathlib.Omega.{arith}
 use mathlib.Core.Path.{_≡_}
 use mathlib.Core.List.{[], _∷_}
 use lib.ListN.{length}
-use Rattle.plan_token_writer.proofs.Stepping.{of-token, room, written-step, below-term, new-item, new-some, row-item}
+use Rattle.plan_token_writer.proofs.Stepping.{of-token, room, within, written-step, new-item, new-some, row-item}
 use borrow.Author.Needs.{needs}
 use Rattle.plan_token_writer.proofs.step.Statement.{statement}
 use Rattle.plan_token_writer.proofs.step.Tie as tie
-
-capacity : (n t l : ℕ) → n ≤ 8 * (t % 1024) → l ≡ 8208 → n + 8 ≤ l
-capacity n t l h e = omega arith
 
 sub-below : tie.Need-sub-below
 sub-below c = search needs
 
 mul-item : tie.Need-mul-item
-mul-item c = let p = c .before .before .pre in search (needs, p .inside)
+mul-item c = let p = c .before .before .pre in search (needs, within _ (p .ordered) [] _ _ _ (p .some) (p .contexts) _ (p .room), p .size)
 
 slice-read-item : tie.Need-slice-read-item
-slice-read-item c = let p = c .before .before .before .pre in omega (arith, p .some, p .inside, p .size)
+slice-read-item c = let p = c .before .before .before .pre in omega (
+  arith,
+  p .some,
+  within _ (p .ordered) [] _ _ _ (p .some) (p .contexts) _
+      (p .room),
+  p .size,
+)
 
 cast-item : tie.Need-cast-item
 cast-item c = omega (arith, c .slice-known3 .given (c .before .before .before .args .top - 1))
@@ -30,7 +33,7 @@ cast-put-byte c = search needs
 put-byte-requires : tie.Need-put-byte-requires
 put-byte-requires c κs =
     let p = c .before .before .before .before .before .pre in
-    omega (arith, room _ (p .ordered) [] _ _ _ (p .some) (p .low) _ _ (of-token _ (p .ordered) _ (c .before .if1 .taken)) (p .room))
+    omega (arith, room _ (p .ordered) [] _ _ _ (p .some) (p .contexts) _ _ (of-token _ (p .ordered) _ (c .before .if1 .taken)) (p .room))
 
 same-length : tie.Need-same-length
 same-length c = c .before .before .put-byte .ensures .kept
@@ -38,8 +41,8 @@ same-length c = c .before .before .put-byte .ensures .kept
 returns : tie.Need-returns
 returns c =
     let p = c .before .before .before .before .before .before .before .before .pre in
-    written-step _ (p .ordered) _ _ _ _ (p .some) (p .low) _ _ _ (of-token _ (p .ordered) _ (c .before .before .before .before .if1 .taken)) (omega arith)
-    (p .inside) (c .before .before .put-byte .ensures)
+    written-step _ (p .ordered) _ _ _ _ (p .some) (p .contexts) _ _ _ (of-token _ (p .ordered) _ (c .before .before .before .before .if1 .taken)) (omega arith)
+    (c .before .before .put-byte .ensures)
 
 mul-word : tie.Need-mul-word
 mul-word c = search needs
@@ -59,7 +62,7 @@ mask-of-requires c κs = search needs
 put-new-requires : tie.Need-put-new-requires
 put-new-requires c κs =
     let p = c .before .before .before .before .before .before .before .before .before .before .pre in
-    room _ (p .ordered) [] _ _ _ (p .some) (p .low) _ _
+    room _ (p .ordered) [] _ _ _ (p .some) (p .contexts) _ _
     (new-item _ (p .ordered) _ _ _ _ (c .before .before .before .before .before .before .if1 .left) (c .before .before .before .before .tag .ensures)
     (c .before .before .before .is-new .ensures) (c .before .before .if2 .taken) (c .mask-of .ensures)) (p .room)
 
@@ -69,11 +72,11 @@ same-length-2 c = c .before .before .put-new .ensures .kept
 returns-2 : tie.Need-returns-2
 returns-2 c =
     let p = c .before .before .before .before .before .before .before .before .before .before .before .before .before .pre in
-    written-step _ (p .ordered) _ _ _ _ (p .some) (p .low) _ _ _
+    written-step _ (p .ordered) _ _ _ _ (p .some) (p .contexts) _ _ _
     (new-item _ (p .ordered) _ _ _ _ (c .before .before .before .before .before .before .before .before .before .if1 .left)
     (c .before .before .before .before .before .before .before .tag .ensures) (c .before .before .before .before .before .before .is-new .ensures)
     (c .before .before .before .before .before .if2 .taken) (c .before .before .before .mask-of .ensures))
-    (new-some _) (p .inside) (c .before .before .put-new .ensures)
+    (new-some _) (c .before .before .put-new .ensures)
 
 row-as-requires : tie.Need-row-as-requires
 row-as-requires c κs = search needs
@@ -83,7 +86,7 @@ push-row-requires c κs =
     let p = c .before .before .before .before .before .before .before .before .before .before .pre in (
       p .table,
       c .row-as .ensures .1,
-      capacity _ _ _ (below-term _ (p .ordered) [] 0 _ _ (p .some) (p .low) (c .before .before .before .before .before .before .if1 .left)) (p .size),
+      omega (arith, within _ (p .ordered) [] _ _ _ (p .some) (p .contexts) _ (p .room), p .size),
     )
 
 same-length-3 : tie.Need-same-length-3
@@ -92,7 +95,7 @@ same-length-3 c = c .before .before .push-row .ensures .kept
 returns-3 : tie.Need-returns-3
 returns-3 c =
     let p = c .before .before .before .before .before .before .before .before .before .before .before .before .before .pre in
-    row-item _ (p .ordered) _ _ _ _ (p .some) (p .low) _ _ _ _ (c .before .before .before .before .before .before .before .before .before .if1 .left)
+    row-item _ (p .ordered) _ _ _ _ (p .some) (p .contexts) _ _ _ _ (c .before .before .before .before .before .before .before .before .before .if1 .left)
     (c .before .before .before .before .before .before .before .tag .ensures) (c .before .before .before .before .before .before .is-new .ensures)
     (c .before .before .before .before .before .if2 .left) (c .before .before .before .row-as .ensures .0)
     (c .before .before .before .row-as .ensures .1) _ (c .before .before .push-row .ensures)

@@ -95,34 +95,34 @@ row l n a b c d e f = l ∷ n ∷ a ∷ b ∷ c ∷ d ∷ e ∷ f ∷ []
 -- expressions by their tags, a condition or a list in place of one among them; conditions; a call's arguments; those behind one; the end of both
 unfoldable pub itemRows : List (List ℕ)
 itemRows =
-    row tight 1 nullWord 0 0 0 0 0
-    ∷ row tight 1 slotItem 0 0 0 0 0
-    ∷ row tight 1 nullWord 0 0 0 0 0  -- new, which is written at once
-    ∷ row tight 3 (childItem 0 tight) dot fieldItem 0 0 0
-    ∷ row loose 5 (childItem 0 tight) dot fieldItem becomes (childItem 5 loose) 0
+    row tight 1 nullWord 3 4 5 6 7
+    ∷ row tight 1 slotItem 3 4 5 6 7
+    ∷ row tight 1 nullWord 3 4 5 6 7  -- new, which is written at once
+    ∷ row tight 3 (childItem 0 tight) dot fieldItem 5 6 7
+    ∷ row loose 5 (childItem 0 tight) dot fieldItem becomes (childItem 5 loose) 7
     ∷ row loose 6 letWord binderItem equals (childItem 3 loose) inWord (childItem 4 loose)
     ∷ row loose 6 ifWord (childItem 0 (asCondition loose)) thenWord (childItem 1 loose) elseWord (childItem 2 loose)
-    ∷ row loose 4 whileWord (childItem 0 (asCondition loose)) doWord (childItem 1 loose) 0 0
-    ∷ row tight 4 callWord procedureItem opening (childItem 6 asArguments) 0 0
-    ∷ row prefix 2 forkWord (childItem 0 prefix) 0 0 0 0
-    ∷ row prefix 2 joinWord (childItem 0 prefix) 0 0 0 0
-    ∷ row loose 4 synchWord (childItem 0 loose) doWord (childItem 1 loose) 0 0
-    ∷ row tight 1 nullWord 0 0 0 0 0
-    ∷ row tight 1 nullWord 0 0 0 0 0
-    ∷ row tight 1 nullWord 0 0 0 0 0
-    ∷ row tight 1 nullWord 0 0 0 0 0
-    ∷ row tight 1 nullWord 0 0 0 0 0
-    ∷ row tight 1 nullWord 0 0 0 0 0
-    ∷ row prefix 2 waitWord (childItem 0 prefix) 0 0 0 0
-    ∷ row prefix 2 notifyWord (childItem 0 prefix) 0 0 0 0
-    ∷ row prefix 3 notifyWord allWord (childItem 0 prefix) 0 0 0
-    ∷ row tight 1 trueWord 0 0 0 0 0
-    ∷ row testing 2 notWord (childItem 0 (asCondition testing)) 0 0 0 0
-    ∷ row loose 3 (childItem 0 (asCondition testing)) andWord (childItem 1 (asCondition loose)) 0 0 0
-    ∷ row testing 3 (childItem 0 prefix) equals (childItem 1 prefix) 0 0 0
-    ∷ row tight 2 (childItem 0 loose) (childItem 1 asFurther) 0 0 0 0
-    ∷ row tight 3 comma (childItem 0 loose) (childItem 1 asFurther) 0 0 0
-    ∷ row tight 1 closing 0 0 0 0 0
+    ∷ row loose 4 whileWord (childItem 0 (asCondition loose)) doWord (childItem 1 loose) 6 7
+    ∷ row tight 4 callWord procedureItem opening (childItem 6 asArguments) 6 7
+    ∷ row prefix 2 forkWord (childItem 0 prefix) 4 5 6 7
+    ∷ row prefix 2 joinWord (childItem 0 prefix) 4 5 6 7
+    ∷ row loose 4 synchWord (childItem 0 loose) doWord (childItem 1 loose) 6 7
+    ∷ row tight 1 nullWord 3 4 5 6 7
+    ∷ row tight 1 nullWord 3 4 5 6 7
+    ∷ row tight 1 nullWord 3 4 5 6 7
+    ∷ row tight 1 nullWord 3 4 5 6 7
+    ∷ row tight 1 nullWord 3 4 5 6 7
+    ∷ row tight 1 nullWord 3 4 5 6 7
+    ∷ row prefix 2 waitWord (childItem 0 prefix) 4 5 6 7
+    ∷ row prefix 2 notifyWord (childItem 0 prefix) 4 5 6 7
+    ∷ row prefix 3 notifyWord allWord (childItem 0 prefix) 5 6 7
+    ∷ row tight 1 trueWord 3 4 5 6 7
+    ∷ row testing 2 notWord (childItem 0 (asCondition testing)) 4 5 6 7
+    ∷ row loose 3 (childItem 0 (asCondition testing)) andWord (childItem 1 (asCondition loose)) 5 6 7
+    ∷ row testing 3 (childItem 0 prefix) equals (childItem 1 prefix) 5 6 7
+    ∷ row tight 2 (childItem 0 loose) (childItem 1 asFurther) 4 5 6 7
+    ∷ row tight 3 comma (childItem 0 loose) (childItem 1 asFurther) 5 6 7
+    ∷ row tight 1 closing 3 4 5 6 7
     ∷ []
 
 -- the row of a condition
@@ -167,10 +167,10 @@ unfoldable pub stackOf : List ℕ → ℕ → List ℕ
 stackOf a zero = []
 stackOf a (suc n) = getD a n 0 ∷ stackOf a n
 
--- a tree is in one of the ten contexts, and has at most eight items below it for each term before its own
-abbrev pub Low : List ℕ → Type 0
-Low [] = Unit {0}
-Low (i ∷ is) = (i < 16384 → (i / 1024 < 10) × (length is ≤ 8 * (i % 1024))) × Low is
+-- each tree is in one of the ten contexts
+abbrev pub InContext : List ℕ → Type 0
+InContext [] = Unit {0}
+InContext (i ∷ is) = (i < 16384 → i / 1024 < 10) × InContext is
 
 -- these items were put on the first n of an array, which are now r
 pub record Pushed (before : List ℕ) (n : ℕ) (is after : List ℕ) (r : ℕ) : Type 0 where
@@ -192,9 +192,8 @@ pub record Running (words : List ℕ) (rows : List (List ℕ)) (stack : List ℕ
   pub ordered : Ordered words
   pub table : rows ≡ itemRows
   pub some : 0 < top
-  pub inside : top ≤ 8208
-  pub size : length stack ≡ 8208
-  pub low : Low (stackOf stack top)
+  pub size : length area + 8 ≤ length stack
+  pub contexts : InContext (stackOf stack top)
   pub room : at + length (tokensIn words (stackOf stack top)) ≤ length area
 
 -- a step: some tokens are written, the others are still on the stack, and less is left to do
@@ -202,7 +201,6 @@ pub record Stepped (words area : List ℕ) (at : ℕ) (stack : List ℕ) (top : 
   pub tokens : List ℕ
   pub wrote : Wrote area at tokens area′ (r .at)
   pub left : tokens ++ tokensIn words (stackOf stack′ (r .top)) ≡ tokensIn words (stackOf stack top)
-  pub low : Low (stackOf stack′ (r .top))
-  pub inside : r .top ≤ 8208
+  pub contexts : InContext (stackOf stack′ (r .top))
   pub kept : length stack′ ≡ length stack
   pub less : weight words (stackOf stack′ (r .top)) < weight words (stackOf stack top)

@@ -9,72 +9,72 @@ use Rattle.plan_tokens.proofs.put_plan.Statement.{statement}
 use Rattle.plan_tokens.proofs.put_plan.Tie as tie
 
 procedures-requires : tie.Need-procedures-requires
-procedures-requires c κs = let g = c .before .before .pre .0 in omega (arith, sized _ _ g)
+procedures-requires c κs = let g = c .before .before .before .pre .0 .0 in omega (arith, sized _ _ g)
 
 root-requires : tie.Need-root-requires
-root-requires c κs = let g = c .before .before .before .pre .0 in (omega arith, omega (arith, sized _ _ g, some _ _ g))
+root-requires c κs = let g = c .before .before .before .before .pre .0 .0 in (omega arith, omega (arith, sized _ _ g, some _ _ g))
 
 all-requires : tie.Need-all-requires
 all-requires c κs = search needs
 
 put-header-requires : tie.Need-put-header-requires
 put-header-requires c κs =
-    let s = c .before .before .before .before .before .before in
-    let g = s .pre .0 in
-    (omega (arith, sized _ _ g), version-small _ _ g, room-for-header _ _ g _ (s .pre .1))
-
-slice-aggregate-write-expression : tie.Need-slice-aggregate-write-expression
-slice-aggregate-write-expression c = search needs
+    let s = c .before .before .before .before .before .before .before in
+    let g = s .pre .0 .0 in
+    (omega (arith, sized _ _ g), version-small _ _ g, room-for-header _ _ g _ (s .pre .0 .1))
 
 write-expression-requires : tie.Need-write-expression-requires
 write-expression-requires c κs =
-    let s = c .before .before .before .before .before .before .before .before .before .before .before .before in
-    let g = s .pre .0 in
+    let s = c .before .before .before .before .before .before .before .before .before .before .before .before .before in
+    let g = s .pre .0 .0 in
     let p = c .before .before .before .before .before .put-header .ensures in
     let q = c .before .before .before .before .before .before .before .before .root .ensures in (
       (in-order _ _ g, rw q (root-inside _ _ g 0 (some _ _ g))),
       (
-        (c .before .before .before .before .before .before .before .all .ensures, search needs),
-        rw q (rw (tree-same _ _ g 0) (rw (p .kept) (room-for-main _ _ g _ _ (s .pre .1) (p .next)))),
+        (c .before .before .before .before .before .before .before .all .ensures, omega (arith, s .pre .1, p .kept)),
+        rw q (rw (tree-same _ _ g 0) (rw (p .kept) (room-for-main _ _ g _ (s .pre .0 .1) _ (p .next)))),
       ),
     )
 
-slice-aggregate-put-procedures : tie.Need-slice-aggregate-put-procedures
-slice-aggregate-put-procedures c = search needs
-
 put-procedures-requires : tie.Need-put-procedures-requires
 put-procedures-requires c κs =
-    let s = c .before .before .before .before .before .before .before .before .before .before .before .before .before .before .before .before .before .before
-    .before in
-    let g = s .pre .0 in
-    let p = c .before .before .before .before .before .before .before .before .before .before .before .before .put-header .ensures in
-    let q = main-wrote _ _ g
-    (c .before .before .before .before .before .before .before .before .before .before .before .before .before .before .before .root .ensures)
-    (c .before .before .before .before .before .before .write-expression .ensures) in (
-      (g, c .before .before .before .before .before .before .before .before .before .before .before .before .before .before .all .ensures, search needs),
+    let s = c .before .before .before .before .before .before .before .before .before .before .before .before .before .before .before .before .before
+    .before .before .before .before in
+    let g = s .pre .0 .0 in
+    let p = c .before .before .before .before .before .before .before .before .before .before .before .before .before .put-header .ensures in
+    let q = main-wrote _ _ g (c .before .before .before .before .before .before .before .before .before .before .before .before .before .before .before
+    .before .root .ensures) (c .before .before .before .before .before .before .before .write-expression .ensures) in (
       (
-        c .before .before .before .before .before .before .before .before .before .before .before .before .before .before .before
-            .before .procedures .ensures,
-        rw (q .kept ∙ p .kept) (room-for-others _ _ g _ _ _ (s .pre .1) (p .next) (q .next)),
+        g,
+        c .before .before .before .before .before .before .before .before .before .before .before .before .before .before .before .all .ensures,
+        omega
+            (arith, s .pre .1, p .kept, q .kept),
+      ),
+      (
+        c .before .before .before .before .before .before .before .before .before .before .before .before .before .before .before .before .before .procedures
+            .ensures,
+        rw (q .kept ∙ p .kept) (room-for-others _ _ g _ (s .pre .0 .1) _ _ (p .next) (q .next)),
       ),
     )
 
 same-length : tie.Need-same-length
-same-length c = c .before .before .before .put-procedures .ensures .kept
-    ∙ c .before .before .before .before .before .before .before .before .before .before .write-expression .ensures .kept
-    ∙ c .before .before .before .before .before .before .before .before .before .before .before .before .before .before .before
-    .before .put-header .ensures .kept
+same-length c = search needs
+
+same-length-2 : tie.Need-same-length-2
+same-length-2 c = c .before .before .before .before .put-procedures .ensures .kept
+    ∙ c .before .before .before .before .before .before .before .before .before .before .before .before .write-expression .ensures .kept
+    ∙ c .before .before .before .before .before .before .before .before .before .before .before .before .before .before .before .before .before .before
+    .put-header .ensures .kept
 
 returns : tie.Need-returns
 returns c =
-    let g = c .before .before .before .before .before .before .before .before .before .before .before .before .before .before .before .before .before .before
-    .before .before .before .before .before .pre .0 in
-    let q = main-wrote _ _ g
-    (c .before .before .before .before .before .before .before .before .before .before .before .before .before .before .before .before .before .before
-    .before .root .ensures) (c .before .before .before .before .before .before .before .before .before .before .write-expression .ensures) in
-    added-as (whole-is _ _ g)
-    (added-more (c .before .before .before .before .before .before .before .before .before .before .before .before .before .before .before
-    .before .put-header .ensures) (added-more q (c .before .before .before .put-procedures .ensures)))
+    let g = c .before .before .before .before .before .before .before .before .before .before .before .before .before .before .before .before .before
+    .before .before .before .before .before .before .before .before .before .pre .0 .0 in
+    let q = main-wrote _ _ g (c .before .before .before .before .before .before .before .before .before .before .before .before .before .before .before
+    .before .before .before .before .before .before .root .ensures) (c .before .before .before .before .before .before .before .before .before .before
+    .before .before .write-expression .ensures) in
+    added-as (whole-is _ _ g) (added-more (c .before .before .before .before .before .before .before .before .before .before .before .before .before .before
+    .before .before .before .before .put-header .ensures) (added-more q (c .before .before .before .before .put-procedures .ensures)))
 
 pub put-plan-spec : {M : Type 1} → statement M
 put-plan-spec =
@@ -84,9 +84,8 @@ put-plan-spec =
     root-requires
     all-requires
     put-header-requires
-    slice-aggregate-write-expression
     write-expression-requires
-    slice-aggregate-put-procedures
     put-procedures-requires
     same-length
+    same-length-2
     returns)

@@ -39,7 +39,7 @@ write-expression-requires c κs =
     let q = c .before .before .root .ensures in (
       (in-order _ _ g, rw q (root-inside _ _ g _ (s .pre .1 .0))),
       (
-        (s .pre .0 .1, s .pre .0 .2),
+        (s .pre .0 .1, omega (arith, s .pre .0 .2, p .kept)),
         rw q (rw (tree-same _ _ g _)
             (omega (
               arith,

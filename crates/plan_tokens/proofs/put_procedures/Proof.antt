@@ -1,5 +1,6 @@
 -- `put_procedures` meets its contract. The invariant: the procedures before this one are written. Assumes nothing.
 use Prim.Native.Nat.{_-_}
+use native.Mathlib.Omega.{arith}
 use mathlib.Core.Path.{_≡_, refl, sym, _∙_}
 use lib.ListN.{length}
 use native.Mathlib.Numerals.{add-one}
@@ -23,9 +24,10 @@ put-procedure-requires : tie.Need-put-procedure-requires Inv-loop μ-loop
 put-procedure-requires c κs =
     let s = c .before .before .before .before .before .before .before in
     let g = s .pre .0 .0 in
+    let l = c .before .before .before .loop in
     let h = rw (s .pre .1 .0) at (c .before .before .loop-test .taken) in (
-      (g, s .pre .0 .1, c .before .before .before .loop .inv .0 ∙ s .pre .0 .2),
-      (h, room-for-one _ _ g (c .before .before .before .loop .inv .1 g) h (s .pre .1 .1)),
+      (g, s .pre .0 .1, omega (arith, s .pre .0 .2, l .inv .0, l .inv .1 g .wrote .kept)),
+      (h, room-for-one _ _ g (l .inv .1 g) h (s .pre .1 .1)),
     )
 
 add-procedure : tie.Need-add-procedure Inv-loop μ-loop

@@ -12,10 +12,11 @@ use Rattle.plan_packed.specs.Check.{refusal}
 use Rattle.plan_packed.specs.inner.Steps.{Loaded}
 use Rattle.log_records.specs.Packed.{bytesOf}
 use Rattle.rules.specs.Run as run
+use Rattle.rules.specs.Run.{instances, log}
 use Rattle.rules.specs.Play.{runOf}
 use Rattle.side_by_side.specs.Moves.{movesOf}
-use Rattle.run_engine.specs.inner.Machine.{picksBefore}
-use Rattle.run_engine.specs.declared.Ran.{Ran}
+use Rattle.run_engine.specs.inner.Engine.{picksBefore}
+use Rattle.run_tally.specs.declared.Ran.{Ran}
 use Rattle.run_engine.specs.declared.Explored.{Explored}
 use Rattle.run_open_threads.specs.inner.Open.{openAfter}
 use Rattle.run_engine.specs.inner.Exploring.{allPicks, NotedAt}
@@ -33,9 +34,9 @@ pub record Given (plan words picks area : List ℕ) : Type 0 where
 -- the defined run's outcome and log; and how many moves and records the run of the picks before the last that it met has
 pub record RunOn (plan picks before after : List ℕ) (r : Ran) : Type 0 where
   pub outcome : outcomeOf (r .outcome) ≡ run.outcomeOf (programOf plan) (runOf plan picks)
-  pub area : after ≡ overwrite (bytesOf (runOf plan picks .log)) before
-  pub moves-before : r .before .moves ≡ length (runOf plan (picksBefore (r .outcome .picks) picks) .instances)
-  pub records-before : r .before .records ≡ length (runOf plan (picksBefore (r .outcome .picks) picks) .log)
+  pub area : after ≡ overwrite (bytesOf (log (runOf plan picks))) before
+  pub moves-before : r .before .moves ≡ length (instances (runOf plan (picksBefore (r .outcome .picks) picks)))
+  pub records-before : r .before .records ≡ length (log (runOf plan (picksBefore (r .outcome .picks) picks)))
 
 -- where every move is to have a record: the defined run's stop, and its moves
 pub record MovesOn (plan picks before after : List ℕ) (r : Ran) : Type 0 where

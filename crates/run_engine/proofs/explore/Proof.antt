@@ -13,6 +13,7 @@ use lib.ListN.{length, getD, set, take, drop, length-set, take-append-drop, repl
 use lib.Seq.{length-take-le, take-suc, take-take, set-getD}
 use borrow.Author.Tests.{le-ltb, ltb-false, eq-eqb, ne-eqb}
 use Rattle.format.proofs.Turns.{turns, one-turn, no-turn}
+use Rattle.run_outcome.specs.declared.NoRoom.the-variants as room
 use Rattle.run_outcome.specs.declared.Stop.{Stop}
 use Rattle.run_outcome.specs.declared.Stop.the-variants as stop
 use Rattle.run_outcome.specs.declared.Thread.{Thread}
@@ -22,29 +23,31 @@ use Rattle.run_state.specs.declared.Head.{Head}
 use Rattle.run_state.specs.declared.Cell.{Cell}
 use Rattle.run_state.specs.declared.Entry.{Entry}
 use Rattle.run_state.specs.declared.acted.Acted.{Acted}
-use Rattle.run_refocusing.specs.declared.Refocusings.{Refocusings}
+use Rattle.run_state.specs.inner.Acted.{noEntry}
+use Rattle.run_frames.specs.declared.refocusing.Refocusing.{Refocusing}
+use Rattle.run_refocusing.specs.inner.Refocusing.{Stack, Ends}
 use Rattle.run_act.specs.inner.Act.{goesOnBy, changesBy}
 use Rattle.run_tally.specs.declared.Tally.{Tally}
-use Rattle.run_tally.specs.inner.Tally.{shownEntry, tallyPut, logPut}
+use Rattle.run_tally.specs.declared.Ran.{Ran}
+use Rattle.run_tally.specs.inner.Tally.{shownEntry, recordsAfter, tallyPut, logPut}
 use types.Run.{OneOf}
 use denote.Enum.Declared.{tagOf}
 use Rattle.run_pick.proofs.Begun as begun-type
 use Rattle.run_pick.specs.declared.Begun.{Begun}
 use Rattle.run_pick.specs.declared.Begun.the-variants as how
-use Rattle.run_pick.specs.declared.Reached.the-variants as reached
 use Rattle.run_pick.specs.inner.Answer.{Move, PickAnswer as answer}
-use Rattle.run_pick.specs.inner.Pick.{Picked, picked, refocusedHead, noHead, forksOf, beginOf, Came}
+use Rattle.run_pick.specs.inner.Pick.{Picked, picked, noRoom, fullOf, refocusedHead, noHead, forksOf, beginOf, goOf, refocusingsFrom}
 use Rattle.run_engine.specs.declared.kept.Kept.{Kept}
 use Rattle.run_engine.specs.inner.Kept.{restoreOf, keptFirst}
-use Rattle.run_engine.specs.inner.Machine.{noCell, Machine, Played, headAt, cellNumber, metBy, threadBy, threadsOf, endOf, pickedBy, startOf, playOf}
+use Rattle.run_engine.specs.inner.Engine.{noCell, EngineState, Played, headAt, cellNumber, metBy, threadBy, threadsOf, endOf, pickedBy, startOf, playOf, CountedBefore}
 use Rattle.run_open_threads.specs.inner.Open.{openAt, unstopped, openAfter, LowestFrom}
 use Rattle.run_engine.specs.inner.Exploring.{allPicks, pickAt}
 use Rattle.run_engine.proofs.Looks.{met, putThread, absent-at, all-threads, eight-threads}
-use Rattle.run_engine.proofs.Plays.{neither, begins, absent-passed, passed, moved, stops, heads-forked, heads-alone, ends-as}
+use Rattle.run_engine.proofs.Plays.{begins, absent-passed, passed, moved, stops, heads-forked, heads-alone, object-put, ends-as}
 use Rattle.run_engine.proofs.Begins as steps
-use Rattle.run_engine.proofs.Begins.{leftBy, goneBy, queues-left, begins-on}
+use Rattle.run_engine.proofs.Begins.{leftBy, goneBy, neither, queues-left, begins-on}
 use Rattle.run_engine.proofs.PassedOver.{none-marked, marked-too, passed-again}
-use Rattle.run_engine.proofs.Restored.{machineOf, all-restored, restored-at, cell-put, cell-left}
+use Rattle.run_engine.proofs.Restored.{engineOf, all-restored, restored-at, cell-put, cell-left}
 use Rattle.run_engine.proofs.MovedCell.{cell-unchanged}
 use Rattle.run_open_threads.proofs.Lowest.{lowest-ext}
 use Rattle.run_engine.proofs.AllPicks.{kept-before}
@@ -92,7 +95,7 @@ abbrev μ-loop : tie.MeasureT-loop
     from₀ to₀ notes log heads cells objects places stack passed tally halt moves-before records-before threads lowest from to =
     length notes - to
 
--- ---- a round, and a pick of it: the plan, the picks, the machine
+-- ---- a round, and a pick of it: the plan, the picks, the engine's state
 
 abbrev Opened : Type 0
 Opened = tie.At-loop Inv-loop2 μ-loop2 Inv-loop3 μ-loop3 Inv-loop μ-loop
@@ -152,9 +155,9 @@ opened l = l .before
 abbrev cells : Turn → List Cell
 cells l = map restoreOf (l .loop2 .cells)
 
-abbrev machine : Turn → Machine
-machine l =
-    machineOf (l .loop2 .heads) (l .loop2 .cells) (l .loop2 .objects) (l .loop2 .places) (l .loop2 .stack) (every (opened l)) (l .loop2 .tally) (l .loop2 .log)
+abbrev engine : Turn → EngineState
+engine l =
+    engineOf (l .loop2 .heads) (l .loop2 .cells) (l .loop2 .objects) (l .loop2 .places) (l .loop2 .stack) (every (opened l)) (l .loop2 .tally) (l .loop2 .log)
 
 -- the run stands at a place, by a log that it began with
 abbrev At : Turn → List ℕ → Type 0
@@ -196,7 +199,7 @@ module _ (c : Drawn) (log : List ℕ) (v : At (turn c) log) where
   run = standing.played (words r) (roots r) (setting r) (every r) log
 
   -- this pick and others are met after those before it
-  next : (qs : List ℕ) → playOf (words r) (roots r) (setting r) (machine l) (pick c ∷ qs) (l .loop2 .i) ≡ run (take (l .loop2 .i + 1) (list r) ++ qs)
+  next : (qs : List ℕ) → playOf (words r) (roots r) (setting r) (engine l) (pick c ∷ qs) (l .loop2 .i) ≡ run (take (l .loop2 .i + 1) (list r) ++ qs)
   next qs =
       let h = started (c .before) .0 in
       let d : l .loop2 .i < length (list r) = omega (arith, h, round r .listed) in
@@ -207,7 +210,7 @@ module _ (c : Drawn) (log : List ℕ) (v : At (turn c) log) where
 
   -- the counts where the turn begins are those of the picks before
   module _ (k : ℕ) (h : k ≡ l .loop2 .i) where
-    before : playOf (words r) (roots r) (setting r) (machine l) [] (l .loop2 .i) ≡ run (take k (list r))
+    before : playOf (words r) (roots r) (setting r) (engine l) [] (l .loop2 .i) ≡ run (take k (list r))
     before = v .goes [] ∙ ap run (append-nil (take (l .loop2 .i) (list r)) ∙ ap (λ (n : ℕ). take n (list r)) (sym h))
 
     moves-before : l .loop2 .tally .moves ≡ run (take k (list r)) .outcome .moves
@@ -262,7 +265,7 @@ loop2-again c =
             few-records = omega (arith, v .few-records);
             kept = v .kept;
             goes = λ qs.
-                absent-passed (words r) (roots r) (setting r) (machine l) (pick d) qs (l .loop2 .i) (c .if1 .taken) ∙ next d first v qs;
+                absent-passed (words r) (roots r) (setting r) (engine l) (pick d) qs (l .loop2 .i) (c .if1 .taken) ∙ next d first v qs;
             unstopped = v .unstopped;
             eight = v .eight;
             moves = moves-before d first v (l .loop2 .i + 1 - 1) (omega arith);
@@ -289,7 +292,7 @@ loop2-again-2 c =
             few-records = omega (arith, v .few-records);
             kept = v .kept;
             goes = λ qs.
-                passed-again (words r) (roots r) (setting r) (machine l) (pick d) qs (l .loop2 .i) (v .marked (pick d % 8) (c .if2 .taken)) ∙ next d first v qs;
+                passed-again (words r) (roots r) (setting r) (engine l) (pick d) qs (l .loop2 .i) (v .marked (pick d % 8) (c .if2 .taken)) ∙ next d first v qs;
             unstopped = v .unstopped;
             eight = v .eight;
             moves = moves-before d first v (l .loop2 .i + 1 - 1) (omega arith);
@@ -298,75 +301,69 @@ loop2-again-2 c =
           },
     )
 
--- ---- a pick that is passed over
+-- ---- how a pick begins
 
-abbrev Answered : Type 0
-Answered = tie.After-refocus Inv-loop2 μ-loop2 Inv-loop3 μ-loop3 Inv-loop μ-loop
+-- whose pick has begun
+abbrev Begins : Type 0
+Begins = tie.Joined3 Inv-loop2 μ-loop2 Inv-loop3 μ-loop3 Inv-loop μ-loop
 
-abbrev asked : Answered → Drawn
-asked c = c .before .before .before .before .before .before .before .before .before .before
+abbrev asked : Begins → Drawn
+asked c = c .before .before .before .before .before .before .before .before
 
-abbrev at : Answered → Turn
+abbrev at : Begins → Turn
 at c = turn (asked c)
 
 -- whose it is
-abbrev mover : Answered → ℕ
+abbrev mover : Begins → ℕ
 mover c = pick (asked c) % 8
 
-abbrev head : Answered → Head
+abbrev head : Begins → Head
 head c = headAt (at c .loop2 .heads) (pick (asked c) % 8)
 
-abbrev begun-so : Answered → Begun
-begun-so c = c .before .before .if3 .begun
-
--- what it comes to
-abbrev comes : Answered → Came
-comes c = record { stack = c .refocus .last .1 .1 .0; reached = c .refocus .result }
+abbrev begun-so : Begins → Begun
+begun-so c = c .if3 .begun
 
 -- whether it only goes on elsewhere
-goes-on : (c : Answered) {t : Bool} → c .before .before .before .goes-on .result ≡ t → goesOnBy (head c .ready .redex) ≡ t
-goes-on c e = sym (c .before .before .before .goes-on .ensures) ∙ e
+goes-on : (c : Begins) {t : Bool} → c .before .goes-on .result ≡ t → goesOnBy (head c .ready .redex) ≡ t
+goes-on c e = sym (c .before .goes-on .ensures) ∙ e
 
-begins-so : (c : Answered)
-    → begun-so c ≡ beginOf (setting (opened (at c))) (metBy (machine (at c) .tally .counts) (machine (at c) .heads) (machine (at c) .cells)
-    (machine (at c) .objects)
-    (machine (at c) .places) (mover c))
+begins-so : (c : Begins)
+    → begun-so c ≡ beginOf (setting (opened (at c))) (metBy (engine (at c) .tally .counts) (engine (at c) .heads) (engine (at c) .cells)
+    (engine (at c) .objects)
+    (engine (at c) .places) (mover c))
 begins-so c =
     let l = at c in
     let r = opened l in
-    ⊎-elim (λ w. w .2 ∙ begins-on (words r) (roots r) (setting r) (machine l) (mover c) (goes-on c (w .0 .taken)) (w .1 .ensures))
+    ⊎-elim (λ w. w .2 ∙ begins-on (words r) (roots r) (setting r) (engine l) (mover c) (goes-on c (w .0 .taken)) (w .1 .ensures))
     (λ w. w .8 ∙ w .7 .ensures
     ∙ ap (beginOf (setting r)) (met (l .loop2 .tally .counts) (l .loop2 .heads) (cells l) (l .loop2 .objects) (l .loop2 .places) (mover c) (w .1 .result) _
-    (w .1 .ensures) (w .3 .ensures ∙ restored-at (l .loop2 .cells) (w .1 .result)))) (c .before .before .if3 .came)
+    (w .1 .ensures) (w .3 .ensures ∙ restored-at (l .loop2 .cells) (w .1 .result)))) (c .if3 .came)
 
 -- its thread is there
-present : (c : Answered) → pick (asked c) % 8 < at c .loop2 .tally .counts .threads
-present c = c .before .before .before .before .before .before .before .if1 .left
+present : (c : Begins) → pick (asked c) % 8 < at c .loop2 .tally .counts .threads
+present c = c .before .before .before .before .before .if1 .left
 
-begun : (c : Answered) → at c .loop2 .i < end (opened (at c))
+begun : (c : Begins) → at c .loop2 .i < end (opened (at c))
 begun c = started (asked c .before) .0
 
-few : (c : Answered) → at c .loop2 .i < 4096
+few : (c : Begins) → at c .loop2 .i < 4096
 few c = started (asked c .before) .1
 
 -- the log has room for a record
-fits : (c : Answered) → (at c .loop2 .tally .records * 3 + 3 ≤ length (at c .loop2 .log)) × (at c .loop2 .tally .records ≤ 4096)
+fits : (c : Begins) → (at c .loop2 .tally .records * 3 + 3 ≤ length (at c .loop2 .log)) × (at c .loop2 .tally .records ≤ 4096)
 fits c =
     let v = here (at c) in
     (omega (arith, v .few-records, v .kept, begun c, round (opened (at c)) .room), omega (arith, v .few-records, few c))
 
-passed-over : (c : Answered) → c .refocus .result ≡ reached.Passed
-    → picked (comes c .stack) answer.Passed ≡ pickedBy (words (opened (at c))) (roots (opened (at c))) (setting (opened (at c))) (machine (at c)) (mover c)
-passed-over c z =
-    let r = opened (at c) in
-    steps.passes (words r) (roots r) (setting r) (machine (at c)) (mover c) (begun-so c) (begins-so c) (comes c) (c .refocus .ensures) z
+-- the engine's answer to it
+abbrev answered : Begins → Picked
+answered c = pickedBy (words (opened (at c))) (roots (opened (at c))) (setting (opened (at c))) (engine (at c)) (mover c)
 
-stops-so : (c : Answered) {e : Stop} {y : Entry} → c .refocus .result ≡ reached.Stopped e y
-    → picked (comes c .stack) (answer.Stopped e y) ≡ pickedBy (words (opened (at c))) (roots (opened (at c))) (setting (opened (at c))) (machine (at c))
-    (mover c)
-stops-so c z =
-    let r = opened (at c) in
-    steps.stops (words r) (roots r) (setting r) (machine (at c)) (mover c) (begun-so c) (begins-so c) (comes c) (c .refocus .ensures) z
+-- ---- a pick that is passed over
+
+passed-over : (c : Begins) → begun-so c ≡ how.Passed → picked (at c .loop2 .stack) answer.Passed ≡ answered c
+passed-over c z =
+    let r = opened (at c) in steps.passes (words r) (roots r) (setting r) (engine (at c)) (mover c) (begun-so c) (begins-so c) z
 
 loop2-again-3 : tie.Need-loop2-again-3 Inv-loop2 μ-loop2 Inv-loop3 μ-loop3 Inv-loop μ-loop
 loop2-again-3 c =
@@ -385,42 +382,100 @@ loop2-again-3 c =
             few-records = omega (arith, v .few-records);
             kept = v .kept;
             goes = λ qs.
-                passed (words r) (roots r) (setting r) (machine l) (pick d) qs (l .loop2 .i) (picked (comes x .stack) answer.Passed) (present x)
-                (passed-over x (neither (x .refocus .result) (c .before .match .keys2) (c .match2 .keys2))) refl ∙ next d first v qs;
+                passed (words r) (roots r) (setting r) (engine l) (pick d) qs (l .loop2 .i) (picked (l .loop2 .stack) answer.Passed) (present x)
+                (passed-over x (neither (begun-so x) (c .before .match .keys2) (c .match2 .keys2))) refl ∙ next d first v qs;
             unstopped = v .unstopped;
             eight = v .eight;
             moves = moves-before d first v (l .loop2 .i + 1 - 1) (omega arith);
             records = records-before d first v (l .loop2 .i + 1 - 1) (omega arith);
-            marked = marked-too (words r) (roots r) (setting r) (machine l) (l .loop2 .passed) (pick d % 8) (picked (comes x .stack) answer.Passed) (present x)
-                (passed-over x (neither (x .refocus .result) (c .before .match .keys2) (c .match2 .keys2))) refl (v .marked);
+            marked = marked-too (words r) (roots r) (setting r) (engine l) (l .loop2 .passed) (pick d % 8) (picked (l .loop2 .stack) answer.Passed) (present x)
+                (passed-over x (neither (begun-so x) (c .before .match .keys2) (c .match2 .keys2))) refl (v .marked);
           },
     )
 
+-- ---- a pick that stops as it begins
+
+stops-so : (c : Begins) {e : Stop} {y : Entry} → begun-so c ≡ how.Stopped e y → picked (at c .loop2 .stack) (answer.Stopped e y) ≡ answered c
+stops-so c z = let r = opened (at c) in steps.stops (words r) (roots r) (setting r) (engine (at c)) (mover c) (begun-so c) (begins-so c) z
+
+-- ---- the refocusings of a move
+
+abbrev Refocused : Type 0
+Refocused = tie.After-refocus Inv-loop2 μ-loop2 Inv-loop3 μ-loop3 Inv-loop μ-loop
+
+abbrev since : Refocused → Begins
+since c = c .before .before .before .before
+
+abbrev ends : Refocused → Ends
+ends c = record { stack = c .refocus .last .1 .1 .0; refocusings = c .refocus .result }
+
+module _ (c : Refocused) where
+  abbrev there : Opened
+  there = opened (at (since c))
+
+  refocuses : ends c
+      ≡ refocusingsFrom (words (opened (at (since c)))) (roots (opened (at (since c)))) (at (since c) .loop2 .tally .counts) (head (since c)) (mover (since c))
+      (goOf (begun-so (since c))) (at (since c) .loop2 .stack)
+  refocuses =
+      c .refocus .ensures
+      ∙ ap (λ (g : Refocusing). refocusingsFrom (words there) (roots there) (at (since c) .loop2 .tally .counts) (head (since c)) (mover (since c)) g
+      (at (since c) .loop2 .stack)) (c .before .before .go-of .ensures)
+
+  -- it is a move
+  moving : OneOf (2 ∷ 3 ∷ []) (tagOf begun-type.the-type (begun-so (since c)))
+  moving = c .before .before .before .match .keys1
+
+  -- without room
+  full-so : fullOf (c .refocus .result .last) ≡ true → picked (ends c .stack) (noRoom room.Depth) ≡ answered (since c)
+  full-so f =
+      steps.full (words there) (roots there) (setting there) (engine (at (since c))) (mover (since c)) (begun-so (since c))
+      (begins-so (since c)) refocuses moving f
+
+  module _ (roomy : fullOf (c .refocus .result .last) ≡ false) where
+    -- a move that only goes on elsewhere
+    on : OneOf (0 ∷ 1 ∷ 2 ∷ []) (tagOf begun-type.the-type (begun-so (since c))) → goesOnBy (head (since c) .ready .redex) ≡ true
+    on other =
+        steps.on (words there) (roots there) (setting there) (engine (at (since c))) (mover (since c)) (begun-so (since c))
+        (begins-so (since c)) refocuses roomy moving
+        other
+
+    gone-on : OneOf (0 ∷ 1 ∷ 2 ∷ []) (tagOf begun-type.the-type (begun-so (since c)))
+        → picked (ends c .stack) (answer.Moved (goneBy (at (since c) .loop2 .tally .counts) (head (since c))
+        (getD (cells (at (since c))) (cellNumber (head (since c) .ready)) noCell) (c .refocus .result .last)))
+        ≡ answered (since c)
+    gone-on other =
+        steps.goes-on (words there) (roots there) (setting there) (engine (at (since c))) (mover (since c)) (begun-so (since c))
+        (begins-so (since c)) refocuses roomy
+        moving other
+
+    -- another: a fork; or not
+    forked : {a : Acted} → begun-so (since c) ≡ how.Acted a → forksOf (head (since c)) ≡ true
+        → picked (ends c .stack) (answer.Moved (leftBy (head (since c)) a (c .refocus .result .before)
+        (refocusedHead (c .refocus .result .last) (at (since c) .loop2 .tally .counts .objects) (head (since c) .keys) 0)))
+        ≡ answered (since c)
+    forked acts n =
+        steps.forks (words there) (roots there) (setting there) (engine (at (since c))) (mover (since c)) (begun-so (since c))
+        (begins-so (since c)) refocuses roomy acts n
+
+    alone : {a : Acted} → begun-so (since c) ≡ how.Acted a → forksOf (head (since c)) ≡ false
+        → picked (ends c .stack) (answer.Moved (leftBy (head (since c)) a (c .refocus .result .last) noHead)) ≡ answered (since c)
+    alone acts n =
+        steps.moves (words there) (roots there) (setting there) (engine (at (since c))) (mover (since c)) (begun-so (since c))
+        (begins-so (since c)) refocuses roomy acts n
+
 -- ---- a pick of a move that only goes on elsewhere
-
-on : (c : Answered) → OneOf (0 ∷ 1 ∷ 2 ∷ []) (tagOf begun-type.the-type (begun-so c)) → {l : Refocusings} → c .refocus .result ≡ reached.Refocused l
-    → goesOnBy (head c .ready .redex) ≡ true
-on c other z =
-    let r = opened (at c) in
-    steps.on (words r) (roots r) (setting r) (machine (at c)) (mover c) (begun-so c) (begins-so c) (comes c) (c .refocus .ensures) other z
-
-gone-on : (c : Answered) → OneOf (0 ∷ 1 ∷ 2 ∷ []) (tagOf begun-type.the-type (begun-so c)) → {l : Refocusings} → c .refocus .result ≡ reached.Refocused l
-    → picked (comes c .stack) (answer.Moved (goneBy (at c .loop2 .tally .counts) (head c) (getD (cells (at c)) (cellNumber (head c .ready)) noCell) (l .last)))
-    ≡ pickedBy (words (opened (at c))) (roots (opened (at c))) (setting (opened (at c))) (machine (at c)) (mover c)
-gone-on c other z =
-    let r = opened (at c) in
-    steps.goes-on (words r) (roots r) (setting r) (machine (at c)) (mover c) (begun-so c) (begins-so c) (comes c) (c .refocus .ensures) other z
 
 moved-requires : tie.Need-moved-requires Inv-loop2 μ-loop2 Inv-loop3 μ-loop3 Inv-loop μ-loop
 moved-requires c κs =
-    let x = c .before .before .before .before .before .before .before .before .before .before .before .before .before .before in
+    let x = since (c .before .before .before .before .before .before .before .before .before .before .before .before .before) in
     let e : c .before .before .before .before .before .put-move .result .moves ≡ at x .loop2 .tally .moves = ap (λ (s : Tally). s .moves)
     (c .before .before .before .before .before .put-move .ensures .0 .0) in
     omega (arith, e, here (at x) .few-moves, few x)
 
 loop2-again-4 : tie.Need-loop2-again-4 Inv-loop2 μ-loop2 Inv-loop3 μ-loop3 Inv-loop μ-loop
 loop2-again-4 c =
-    let x = c .before .before .before .before .before .before .before .before .before .before .before .before .before .before .before in
+    let f = c .before .before .before .before .before .before .before .before .before .before .before .before .before .before in
+    let x = since f in
     let d = asked x in
     let l = at x in
     let r = opened l in
@@ -429,7 +484,8 @@ loop2-again-4 c =
     let put = c .before .before .before .before .before .before .put-move in
     let none = c .before .before .before .before .before .before .before .before .no-entry .ensures in
     let other = c .before .before .before .before .before .before .before .before .before .match3 .keys2 in
-    let refocused = c .before .before .before .before .before .before .before .before .before .before .before .before .before .reached .given .1 in
+    let roomy : fullOf (f .refocus .result .last) ≡ false = sym (c .before .before .before .before .before .before .before .before .before .before .before
+    .before .full .ensures) ∙ c .before .before .before .before .before .before .before .before .before .before .before .if4 .left in
     let before : put .result .moves ≡ l .loop2 .tally .moves = ap (λ (s : Tally). s .moves) (put .ensures .0 .0) in
     let moves : c .moved .result .moves ≡ put .result .moves + 1 = ap (λ (s : Tally). s .moves) (c .moved .ensures .0) in
     let records : c .moved .result .records ≡ put .result .records = ap (λ (s : Tally). s .records) (c .moved .ensures .0) in (
@@ -442,12 +498,13 @@ loop2-again-4 c =
             few-records = omega (arith, records, put .ensures .0 .1, v .few-records);
             kept = put .kept .0 ∙ v .kept;
             goes = λ qs.
-                moved (words r) (roots r) (setting r) (machine l) (pick d) qs (l .loop2 .i)
-                _ (present x) (gone-on x other refocused) refl
+                moved (words r) (roots r) (setting r) (engine l) (pick d) qs (l .loop2 .i)
+                _ (present x) (gone-on f roomy other) refl
                 (cells l) _ _ (l .loop2 .places) (put .result) (c .moved .result) (put .last .0)
                 (sym (set-getD (cells l) (cellNumber (head x .ready)) noCell)) (ap (set (l .loop2 .heads) (mover x)) (c .before .before .before .gone .ensures))
-                (ap (set (l .loop2 .objects) (l .loop2 .tally .counts .objects % 33)) (c .before .before .no-object .ensures))
-                (queues-left (l .loop2 .places) (head x .ready) (mover x) (on x other refocused))
+                (object-put (l .loop2 .objects) _ _ _ (c .before .remainder .ensures)
+                ∙ ap (set (l .loop2 .objects) (l .loop2 .tally .counts .objects % 33)) (c .before .before .no-object .ensures))
+                (queues-left (l .loop2 .places) (head x .ready) (mover x) (on f roomy other))
                 (put .ensures .0 .0 ∙ ap (λ (y : Entry). tallyPut (l .loop2 .tally) (shownEntry (every r) y)) none) (c .moved .ensures .0)
                 (put .ensures .1 ∙ ap (λ (y : Entry). logPut (l .loop2 .log) (l .loop2 .tally .records) (mover x) (shownEntry (every r) y)) none)
                 ∙ next d first v qs;
@@ -462,47 +519,31 @@ loop2-again-4 c =
 -- ---- a pick of another move, or one that stops the run
 
 slice-aggregate-after : tie.Need-slice-aggregate-after Inv-loop2 μ-loop2 Inv-loop3 μ-loop3 Inv-loop μ-loop
-slice-aggregate-after c = sym (here (at (c .before .before .before .before .before .before .before .before .before)) .eight)
+slice-aggregate-after c = sym (here (at (since (c .before .before .before .before .before .before .before .before))) .eight)
 
 after-requires : tie.Need-after-requires Inv-loop2 μ-loop2 Inv-loop3 μ-loop3 Inv-loop μ-loop
-after-requires c κs = (here (at (c .before .before .before .before .before .before .before .before .before)) .eight, omega arith)
+after-requires c κs = (here (at (since (c .before .before .before .before .before .before .before .before))) .eight, omega arith)
 
 moved-requires-4 : tie.Need-moved-requires-4 Inv-loop2 μ-loop2 Inv-loop3 μ-loop3 Inv-loop μ-loop
 moved-requires-4 c κs =
-    let x = c .before .before .before .before .before .before .before .before .before .before .before .before .before .before .before .before .before .before
-    .before .before .before .before .before in
+    let x = since (c .before .before .before .before .before .before .before .before .before .before .before .before .before .before .before .before .before
+    .before .before .before .before .before) in
     let e : c .before .before .before .before .before .before .before .before .before .put-move2 .result .moves ≡ at x .loop2 .tally .moves = ap
     (λ (s : Tally). s .moves) (c .before .before .before .before .before .before .before .before .before .put-move2 .ensures .0 .0) in
     omega (arith, e, here (at x) .few-moves, few x)
 
 -- its cell, where its redex changes none
-unchanged : (c : Answered) {v : Move} → (z : Picked) → z .answer ≡ answer.Moved v
-    → z ≡ pickedBy (words (opened (at c))) (roots (opened (at c))) (setting (opened (at c))) (machine (at c)) (mover c) → changesBy (head c .ready .redex) ≡
-    false
+unchanged : (c : Begins) {v : Move} → (z : Picked) → z .answer ≡ answer.Moved v → z ≡ answered c → changesBy (head c .ready .redex) ≡ false
     → v .cell ≡ getD (cells (at c)) (cellNumber (head c .ready)) noCell
 unchanged c {v} z e q h =
     let r = opened (at c) in
-    cell-unchanged (words r) (roots r) (setting r) v (machine (at c)) (mover c) h (ap (λ (y : Picked). y .answer) (sym q) ∙ e)
-
--- what it leaves: of a fork; of another
-forked : (c : Answered) {a : Acted} → begun-so c ≡ how.Acted a → {l : Refocusings} → c .refocus .result ≡ reached.Refocused l → forksOf (head c) ≡ true
-    → picked (comes c .stack) (answer.Moved (leftBy (head c) a (l .before) (refocusedHead (l .last) (at c .loop2 .tally .counts .objects) (head c .keys) 0)))
-    ≡ pickedBy (words (opened (at c))) (roots (opened (at c))) (setting (opened (at c))) (machine (at c)) (mover c)
-forked c acts z n =
-    let r = opened (at c) in
-    steps.forks (words r) (roots r) (setting r) (machine (at c)) (mover c) (begun-so c) (begins-so c) (comes c) (c .refocus .ensures) acts z n
-
-alone : (c : Answered) {a : Acted} → begun-so c ≡ how.Acted a → {l : Refocusings} → c .refocus .result ≡ reached.Refocused l → forksOf (head c) ≡ false
-    → picked (comes c .stack) (answer.Moved (leftBy (head c) a (l .last) noHead))
-    ≡ pickedBy (words (opened (at c))) (roots (opened (at c))) (setting (opened (at c))) (machine (at c)) (mover c)
-alone c acts z n =
-    let r = opened (at c) in
-    steps.moves (words r) (roots r) (setting r) (machine (at c)) (mover c) (begun-so c) (begins-so c) (comes c) (c .refocus .ensures) acts z n
+    cell-unchanged (words r) (roots r) (setting r) v (engine (at c)) (mover c) h (ap (λ (y : Picked). y .answer) (sym q) ∙ e)
 
 loop2-again-5 : tie.Need-loop2-again-5 Inv-loop2 μ-loop2 Inv-loop3 μ-loop3 Inv-loop μ-loop
 loop2-again-5 c =
-    let x = c .before .before .before .before .before .before .before .before .before .before .before .before .before .before .before .before .before .before
+    let f = c .before .before .before .before .before .before .before .before .before .before .before .before .before .before .before .before .before
     .before .before .before .before .before .before in
+    let x = since f in
     let d = asked x in
     let l = at x in
     let r = opened l in
@@ -510,12 +551,14 @@ loop2-again-5 c =
     let t = begun x in
     let put = c .before .before .before .before .before .before .before .before .before .before .put-move2 in
     let queue = c .before .before .before .before .before .before .before .before .before .before .before .before .before .before .after in
-    let j = c .before .before .before .before .before .before .if4 in
-    let k = c .before .before .before .before .if5 in
+    let j = c .before .before .before .before .before .before .if5 in
+    let k = c .before .before .before .before .if6 in
     let acts = c .before .before .before .before .before .before .before .before .before .before .before .before .before .before .before .before .before
-    .begun .given .1 in
-    let refocused = c .before .before .before .before .before .before .before .before .before .before .before .before .before .before .before .before .before
-    .before .before .before .before .before .reached .given .1 in
+    .begun2 .given .1 in
+    let roomy : fullOf (f .refocus .result .last) ≡ false = sym (c .before .before .before .before .before .before .before .before .before .before .before
+    .before .before .before .before .before .before .before .before .before .before .full .ensures)
+    ∙ c .before .before .before .before .before .before .before .before .before .before .before .before .before .before .before .before .before .before
+    .before .before .if4 .left in
     let same = c .before .before .before .before .before .changes .ensures in
     let before : put .result .moves ≡ l .loop2 .tally .moves = ap (λ (s : Tally). s .moves) (put .ensures .0 .0) in
     let moves : c .moved4 .result .moves ≡ put .result .moves + 1 = ap (λ (s : Tally). s .moves) (c .moved4 .ensures .0) in
@@ -529,22 +572,27 @@ loop2-again-5 c =
             few-records = omega (arith, records, put .ensures .0 .1, v .few-records);
             kept = put .kept .0 ∙ v .kept;
             goes = λ qs. ⊎-elim (λ w.
-                let came = forked x acts refocused (eq-eqb _ _ (w .0 .taken)) in
-                moved (words r) (roots r) (setting r) (machine l) (pick d) qs (l .loop2 .i) _ (present x) came refl
+                let came = forked f roomy acts (eq-eqb _ _ (w .0 .taken)) in
+                moved (words r) (roots r) (setting r) (engine l) (pick d) qs (l .loop2 .i) _ (present x) came refl
                 (map restoreOf (k .cells)) (j .heads) _ (queue .last .0) (put .result) (c .moved4 .result) (put .last .0)
                 (⊎-elim (λ u. cell-put (l .loop2 .cells) (k .cells) _ _ _ (u .3 .ensures)
                 (u .4 ∙ ap (λ (n : ℕ). set (l .loop2 .cells) n (u .3 .result)) (u .1 .ensures .cell)))
                 (λ u. cell-left (l .loop2 .cells) (k .cells) _ _ (u .1) (unchanged x _ refl came (sym same ∙ u .0 .left))) (k .came))
                 (heads-forked (l .loop2 .heads) (j .heads) (l .loop2 .tally .counts .threads % 9) (mover x) (w .4 .ensures) (eq-eqb _ _ (w .0 .taken))
-                (w .2 .ensures) (w .5)) refl (queue .ensures) (put .ensures .0 .0) (c .moved4 .ensures .0) (put .ensures .1)) (λ w.
-                let came = alone x acts refocused (ne-eqb _ _ (w .0 .left)) in
-                moved (words r) (roots r) (setting r) (machine l) (pick d) qs (l .loop2 .i) _ (present x) came refl
+                (w .2 .ensures)
+                (w .5 ∙ ap (λ (n : ℕ). set (set (l .loop2 .heads) n (w .2 .result)) (mover x) (w .4 .result)) (w .3 .ensures)))
+                (object-put (l .loop2 .objects) _ _ _ (c .before .remainder3 .ensures)) (queue .ensures) (put .ensures .0 .0) (c .moved4 .ensures .0)
+                (put .ensures .1)) (λ w.
+                let came = alone f roomy acts (ne-eqb _ _ (w .0 .left)) in
+                moved (words r) (roots r) (setting r) (engine l) (pick d) qs (l .loop2 .i) _ (present x) came refl
                 (map restoreOf (k .cells)) (j .heads) _ (queue .last .0) (put .result) (c .moved4 .result) (put .last .0)
                 (⊎-elim (λ u. cell-put (l .loop2 .cells) (k .cells) _ _ _ (u .3 .ensures)
                 (u .4 ∙ ap (λ (n : ℕ). set (l .loop2 .cells) n (u .3 .result)) (u .1 .ensures .cell)))
                 (λ u. cell-left (l .loop2 .cells) (k .cells) _ _ (u .1) (unchanged x _ refl came (sym same ∙ u .0 .left))) (k .came))
                 (heads-alone (l .loop2 .heads) (j .heads) (l .loop2 .tally .counts .threads % 9) (mover x) (w .1 .ensures) noHead (ne-eqb _ _ (w .0 .left))
-                (w .2)) refl (queue .ensures) (put .ensures .0 .0) (c .moved4 .ensures .0) (put .ensures .1)) (j .came) ∙ next d first v qs;
+                (w .2))
+                (object-put (l .loop2 .objects) _ _ _ (c .before .remainder3 .ensures)) (queue .ensures) (put .ensures .0 .0) (c .moved4 .ensures .0)
+                (put .ensures .1)) (j .came) ∙ next d first v qs;
             unstopped = v .unstopped;
             eight = queue .kept .0 ∙ v .eight;
             moves = moves-before d first v (l .loop2 .i + 1 - 1) (omega arith);
@@ -561,7 +609,120 @@ Left = tie.Left-loop2 Inv-loop2 μ-loop2 Inv-loop3 μ-loop3 Inv-loop μ-loop
 abbrev closed : Left → Opened
 closed c = opened (c .before)
 
--- it was left at its end, or by a stop
+-- a pick that stops the run, with its last record: the run ends there, and no thread can be picked any more
+module _ (x : Begins) {e : Stop} {y : Entry} {k : Stack} (came : picked k (answer.Stopped e y) ≡ answered x) where
+  stops-there : (e′ : Stop) (j : ℕ) (s : Tally) (log : List ℕ) → e′ ≡ e → j ≡ at x .loop2 .i → s ≡ tallyPut (at x .loop2 .tally) y
+      → log ≡ logPut (at x .loop2 .log) (at x .loop2 .tally .records) (mover x) y
+      → _≡_ {A = Played} (record {
+        outcome =
+            endOf e′ j (setting (opened (at x))) s (at x .loop2 .heads) (cells (at x)) (at x .loop2 .objects) (at x .loop2 .places);
+        area = log;
+      }) (whole (opened (at x)))
+  stops-there e′ j s log qe qj qs ql =
+      let d = asked x in
+      let l = at x in
+      let r = opened l in
+      let later = drop (l .loop2 .i + 1) (take (end r) (list r)) in
+      let t : l .loop2 .i + 1 ≤ end r = omega (arith, begun x) in
+      let q : take (l .loop2 .i + 1) (list r) ++ later ≡ take (end r) (list r) =
+      ap (λ (ps : List ℕ). ps ++ later) (sym (take-take (l .loop2 .i + 1) (end r) (list r) t)) ∙ take-append-drop (l .loop2 .i + 1) (take (end r) (list r)) in
+      stops (words r) (roots r) (setting r) (engine l) (pick d) later (l .loop2 .i) _ (present x) came refl e′ j s log qe qj qs ql
+      ∙ next d (first r) (here l) later ∙ ap (played r) q
+
+  halts-there : {e′ : Stop} → e′ ≡ e → unstopped e′ ≡ false
+  halts-there q =
+      let r = opened (at x) in
+      ap unstopped q ∙ stop-halts (words r) (roots r) (setting r) (engine (at x)) (mover x) e y (ap (λ (z : Picked). z .answer) (sym came))
+
+-- without a record, nothing is put
+nothing-put : (s : Tally) → s ≡ tallyPut s noEntry
+unfolding recordsAfter
+nothing-put s = refl
+
+nothing-logged : (log : List ℕ) (n p : ℕ) → log ≡ logPut log n p noEntry
+unfolding logPut
+nothing-logged log n p = refl
+
+-- a round was left at its end, or by a stop, after which no thread can be picked any more
+left-so : (c : Left)
+    → (_≡_ {A = Played} (record {
+      outcome =
+          endOf (c .loop2-test .stop) (c .loop2-test .dealt) (setting (closed c)) (c .loop2-test .tally) (c .before .loop2 .heads) (cells (c .before))
+          (c .before .loop2 .objects) (c .before .loop2 .places);
+      area = c .loop2-test .log;
+    }) (whole (closed c))) × (c .loop2-test .dealt < end (closed c) → unstopped (c .loop2-test .stop) ≡ false)
+unfolding playOf
+left-so c =
+    let l = c .before in
+    let r = opened l in
+    let i = l .loop2 .inv in
+    let v = here l in
+    ⊎-elim (λ w.
+    let t : l .loop2 .i ≡ end r = omega (arith, w .0 .left, i .1) in
+    let q : playOf (words r) (roots r) (setting r) (engine l) [] (l .loop2 .i) ≡ whole r =
+    v .goes [] ∙ ap (played r) (append-nil (take (l .loop2 .i) (list r)) ∙ ap (λ (n : ℕ). take n (list r)) t) in (
+      ends-as (setting r) (l .loop2 .heads) (cells l) (l .loop2 .objects) (l .loop2 .places) _ _ _ _ _ _ _ _ (w .4 ∙ v .unstopped) (w .5 ∙ i .2 ∙ sym t) (w .3)
+          (w .1) ∙ q,
+      λ h. absurd (omega (arith, h, w .5, i .2)),
+    )) (⊎-elim (λ w.
+    let x : Begins = (record {
+      before = record {
+        before = record {
+          before = record {
+            before = record {
+              before = record {
+                before = record {
+                  before = record { before = record { before = record { before = l; loop2-test = w .0 }; pick-at = w .1 }; counts = w .2 };
+                  struct-known = w .3;
+                };
+                if1 = w .4;
+              };
+              if2 = w .5;
+            };
+            head = w .6;
+          };
+          ready = w .7;
+        };
+        goes-on = w .8;
+      };
+      if3 = w .9;
+    }) in
+    let came = stops-so x (w .12 .given .1) in (
+      stops-there x came _ _ _ _ (w .21) (w .22) (w .20 ∙ w .15 .ensures .0 .0) (w .18 ∙ w .15 .ensures .1),
+      λ h. halts-there x came (w .21),
+    )) (λ w.
+    let x : Begins = (record {
+      before = record {
+        before = record {
+          before = record {
+            before = record {
+              before = record {
+                before = record {
+                  before = record { before = record { before = record { before = l; loop2-test = w .0 }; pick-at = w .1 }; counts = w .2 };
+                  struct-known = w .3;
+                };
+                if1 = w .4;
+              };
+              if2 = w .5;
+            };
+            head = w .6;
+          };
+          ready = w .7;
+        };
+        goes-on = w .8;
+      };
+      if3 = w .9;
+    }) in
+    let f : Refocused = record {
+      before = record { before = record { before = record { before = x; match = w .10 }; go-of = w .11 }; stack = w .12 };
+      refocus = w
+          .13;
+    } in
+    let came = full-so f (sym (w .15 .ensures) ∙ w .16 .taken) in (
+      stops-there x came _ _ _ _ (w .20) (w .21) (w .19 ∙ nothing-put _) (w .17 ∙ nothing-logged _ _ _),
+      λ h. halts-there x came (w .20),
+    ))) (c .loop2-test .came)
+
 ended : (c : Left)
     → _≡_ {A = Played} (record {
       outcome =
@@ -569,94 +730,10 @@ ended : (c : Left)
           (c .before .loop2 .objects) (c .before .loop2 .places);
       area = c .loop2-test .log;
     }) (whole (closed c))
-unfolding playOf
-ended c =
-    let l = c .before in
-    let r = opened l in
-    let i = l .loop2 .inv in
-    let v = here l in
-    ⊎-elim (λ w.
-    let t : l .loop2 .i ≡ end r = omega (arith, w .0 .left, i .1) in
-    let q : playOf (words r) (roots r) (setting r) (machine l) [] (l .loop2 .i) ≡ whole r =
-    v .goes [] ∙ ap (played r) (append-nil (take (l .loop2 .i) (list r)) ∙ ap (λ (n : ℕ). take n (list r)) t) in
-    ends-as (setting r) (l .loop2 .heads) (cells l) (l .loop2 .objects) (l .loop2 .places) _ _ _ _ _ _ _ _ (w .4 ∙ v .unstopped) (w .5 ∙ i .2 ∙ sym t) (w .3)
-    (w .1) ∙ q) (λ w.
-    let d : Drawn = record { before = record { before = l; loop2-test = w .0 }; pick-at = w .1 } in
-    let later = drop (l .loop2 .i + 1) (take (end r) (list r)) in
-    let t : l .loop2 .i + 1 ≤ end r = omega (arith, w .0 .taken) in
-    let e : take (l .loop2 .i + 1) (list r) ++ later ≡ take (end r) (list r) =
-    ap (λ (ps : List ℕ). ps ++ later) (sym (take-take (l .loop2 .i + 1) (end r) (list r) t)) ∙ take-append-drop (l .loop2 .i + 1) (take (end r) (list r)) in
-    let x : Answered = (record {
-      before = record {
-        before = record {
-          before = record {
-            before = record {
-              before = record {
-                before = record {
-                  before = record {
-                    before = record {
-                      before
-                          = record { before = d; counts = w .2 };
-                      struct-known = w .3;
-                    };
-                    if1 = w .4;
-                  };
-                  if2 = w .5;
-                };
-                head = w .6;
-              };
-              ready = w .7;
-            };
-            goes-on = w .8;
-          };
-          if3 = w .9;
-        };
-        stack = w .10;
-      };
-      refocus = w .11;
-    }) in
-    stops (words r) (roots r) (setting r) (machine l) (pick d) later (l .loop2 .i) _ (w .4 .left) (stops-so x (w .14 .given .1)) refl _ _ _ _ (w .23) (w .24)
-    (w .22 ∙ w .17 .ensures .0 .0) (w .20 ∙ w .17 .ensures .1)
-    ∙ next d (first r) v later ∙ ap (played r) e) (c .loop2-test .came)
+ended c = left-so c .0
 
--- by a stop, no thread can be picked any more
 halted : (c : Left) → c .loop2-test .dealt < end (closed c) → unstopped (c .loop2-test .stop) ≡ false
-halted c h =
-    let l = c .before in
-    let r = opened l in
-    ⊎-elim (λ w. absurd (omega (arith, h, w .5, l .loop2 .inv .2))) (λ w.
-    let d : Drawn = record { before = record { before = l; loop2-test = w .0 }; pick-at = w .1 } in
-    let x : Answered = (record {
-      before = record {
-        before = record {
-          before = record {
-            before = record {
-              before = record {
-                before = record {
-                  before = record {
-                    before = record {
-                      before
-                          = record { before = d; counts = w .2 };
-                      struct-known = w .3;
-                    };
-                    if1 = w .4;
-                  };
-                  if2 = w .5;
-                };
-                head = w .6;
-              };
-              ready = w .7;
-            };
-            goes-on = w .8;
-          };
-          if3 = w .9;
-        };
-        stack = w .10;
-      };
-      refocus = w .11;
-    }) in
-    ap unstopped (w .23) ∙ stop-halts (words r) (roots r) (setting r) (machine l) (w .1 .result % 8) _ _
-    (ap (λ (y : Picked). y .answer) (sym (stops-so x (w .14 .given .1))))) (c .loop2-test .came)
+halted c = left-so c .1
 
 -- without one, the run stands at the round's end
 stood : (c : Left) → end (closed c) ≤ c .loop2-test .dealt
@@ -668,8 +745,8 @@ stood c h =
     let r = opened l in
     ⊎-elim (λ w.
     let t : end r ≡ l .loop2 .i = omega (arith, w .0 .left, l .loop2 .inv .1) in
-    standing-as (words r) (roots r) (setting r) (every r) (first r) t (w .1) (w .2) (w .3) (w .4) (w .6) (w .7) (here l)) (λ w.
-    absurd (omega (arith, h, w .24, w .0 .taken))) (c .loop2-test .came)
+    standing-as (words r) (roots r) (setting r) (every r) (first r) t (w .1) (w .2) (w .3) (w .4) (w .6) (w .7) (here l)) (⊎-elim (λ w.
+    absurd (omega (arith, h, w .22, w .0 .taken))) (λ w. absurd (omega (arith, h, w .21, w .0 .taken)))) (c .loop2-test .came)
 
 -- the counts before the last pick that was met
 module _ (c : Left) where
@@ -704,16 +781,20 @@ module _ (c : Left) where
   counted-moves =
       ⊎-elim (λ w. w .6 ∙ here (c .before) .moves
       ∙ ap (λ (n : ℕ). played (closed c) (take n (list (closed c))) .outcome .moves) (at-end (w .0 .left) (w .5)))
-      (λ w. w .25 ∙ moves-before (record { before = record { before = c .before; loop2-test = w .0 }; pick-at = w .1 }) (first (closed c)) (here (c .before)) k
-      (at-stop (w .0 .taken) (w .24))) (c .loop2-test .came)
+      (⊎-elim (λ w. w .23 ∙ moves-before (record { before = record { before = c .before; loop2-test = w .0 }; pick-at = w .1 }) (first (closed c))
+      (here (c .before)) k (at-stop (w .0 .taken) (w .22)))
+      (λ w. w .22 ∙ moves-before (record { before = record { before = c .before; loop2-test = w .0 }; pick-at = w .1 }) (first (closed c)) (here (c .before)) k
+      (at-stop (w .0 .taken) (w .21)))) (c .loop2-test .came)
       ∙ ap (λ (ps : List ℕ). played (closed c) ps .outcome .moves) same
 
   counted-records : c .loop2-test .records-before ≡ played (closed c) (take k (take (end (closed c)) (list (closed c)))) .outcome .records
   counted-records =
       ⊎-elim (λ w. w .7 ∙ here (c .before) .records
       ∙ ap (λ (n : ℕ). played (closed c) (take n (list (closed c))) .outcome .records) (at-end (w .0 .left) (w .5)))
-      (λ w. w .26 ∙ records-before (record { before = record { before = c .before; loop2-test = w .0 }; pick-at = w .1 }) (first (closed c)) (here (c .before))
-      k (at-stop (w .0 .taken) (w .24))) (c .loop2-test .came)
+      (⊎-elim (λ w. w .24 ∙ records-before (record { before = record { before = c .before; loop2-test = w .0 }; pick-at = w .1 }) (first (closed c))
+      (here (c .before)) k (at-stop (w .0 .taken) (w .22)))
+      (λ w. w .23 ∙ records-before (record { before = record { before = c .before; loop2-test = w .0 }; pick-at = w .1 }) (first (closed c)) (here (c .before))
+      k (at-stop (w .0 .taken) (w .21)))) (c .loop2-test .came)
       ∙ ap (λ (ps : List ℕ). played (closed c) ps .outcome .records) same
 
 -- ---- the look at all threads
@@ -721,7 +802,7 @@ module _ (c : Left) where
 abbrev Last : Type 0
 Last = tie.At-loop3 Inv-loop2 μ-loop2 Inv-loop3 μ-loop3 Inv-loop μ-loop
 
--- where a thread is seen: the machine where the round ended
+-- where a thread is seen: the engine's state where the round ended
 abbrev left : Last → Left
 left c = c .before .before
 
@@ -756,7 +837,7 @@ loop3-again c =
     let h : p < 8 = c .before .before .before .loop3-test .taken in
     let e = c .no-thread2 .ensures
     ∙ sym (absent-at (l .loop2-test .tally .counts) (m .loop2 .heads) (cells m) (m .loop2 .objects) (m .loop2 .places) (setting (opened m)) p
-    (c .before .if6 .taken)) in (
+    (c .before .if7 .taken)) in (
       omega arith,
       ap (λ (x : Thread). turns (put l) (8 - (p + 1)) (p + 1) (set (a .loop3 .threads) p x)) e
           ∙ sym (one-turn (put l) 8 p (a .loop3 .threads) h) ∙ a .loop3 .inv .1,
@@ -835,7 +916,7 @@ module _ (c : Noted) where
   lowest = answer-of c .goes-on-by .result
 
   by-this : answer-of c .goes-on-by .result < 8
-  by-this = omega (arith, answer-of c .goes-on-by .ensures .within, c .before .before .if7 .left)
+  by-this = omega (arith, answer-of c .goes-on-by .ensures .within, c .before .before .if8 .left)
 
   going : (ltb (left (answer-of c .before .before) .loop2-test .dealt) (end o) ≡ false) × (end o < length (o .loop .notes))
       × LowestFrom (openAt (answer-of c .before .before .loop3 .threads)) 0 (answer-of c .goes-on-by .result)
@@ -896,16 +977,17 @@ loop-less c = omega (arith, going c .1, length-set (o c .loop .notes) (end (o c)
 -- ---- it is over
 
 same-length : tie.Need-same-length Inv-loop2 μ-loop2 Inv-loop3 μ-loop3 Inv-loop μ-loop
-same-length c = round (closed (left (c .before .before .before))) .kept
+same-length c = round (closed (left (c .before .before .before .before))) .kept
 
 same-length-2 : tie.Need-same-length-2 Inv-loop2 μ-loop2 Inv-loop3 μ-loop3 Inv-loop μ-loop
 same-length-2 c =
-    let l = left (c .before .before .before) in
+    let l = left (c .before .before .before .before) in
     let v = here (l .before) in
-    ⊎-elim (λ w. ap length (w .1) ∙ v .kept) (λ w. ap length (w .20) ∙ w .17 .kept .0 ∙ v .kept) (l .loop2-test .came)
+    ⊎-elim (λ w. ap length (w .1) ∙ v .kept) (⊎-elim (λ w. ap length (w .18) ∙ w .15 .kept .0 ∙ v .kept) (λ w. ap length (w .17) ∙ v .kept))
+    (l .loop2-test .came)
 
 -- short of the last place, it has stopped or no thread can be picked
-shut-off : (c : tie.Then7 Inv-loop2 μ-loop2 Inv-loop3 μ-loop3 Inv-loop μ-loop)
+shut-off : (c : tie.Then8 Inv-loop2 μ-loop2 Inv-loop3 μ-loop3 Inv-loop μ-loop)
     → end (closed (left (c .before .before .before))) < length (closed (left (c .before .before .before)) .loop .notes) → (k : ℕ)
     → k < 8 → Dec (left (c .before .before .before) .loop2-test .dealt < end (closed (left (c .before .before .before))))
     → openAfter (whole (closed (left (c .before .before .before))) .outcome) k ≡ false
@@ -918,25 +1000,32 @@ shut-off c b k h (no d) =
     let l = left (a .before) in
     ap (λ (x : Outcome). openAfter x k) (sym (outcome-is a))
     ∙ ap (λ (x : Stop). unstopped x && openAt (a .before .loop3 .threads) k) (stood l (omega (arith, d)) .unstopped)
-    ∙ c .before .goes-on-by .ensures .none (c .if7 .taken) (le-ltb (l .loop2-test .dealt) (end (closed l)) (omega (arith, d))) b k h
+    ∙ c .before .goes-on-by .ensures .none (c .if8 .taken) (le-ltb (l .loop2-test .dealt) (end (closed l)) (omega (arith, d))) b k h
+
+result-requires : tie.Need-result-requires Inv-loop2 μ-loop2 Inv-loop3 μ-loop3 Inv-loop μ-loop
+result-requires c κs = search needs
 
 returns : tie.Need-returns Inv-loop2 μ-loop2 Inv-loop3 μ-loop3 Inv-loop μ-loop
 returns c =
-    let a = c .before .before in
+    let z = c .before in
+    let a = z .before .before in
     let l = left (a .before) in
     let r = closed l in
+    let e = c .result .ensures in
     record {
       kept = round r .kept;
       within = round r .listed;
       unnoted = round r .unnoted;
       places = round r .places;
-      outcome = outcome-is a;
+      outcome = ap (λ (x : Ran). x .outcome) e ∙ outcome-is a;
       area = ap (λ (x : Played). x .area) (ended l);
-      counted = record { moves = counted-moves l; records = counted-records l };
+      counted = along (CountedBefore (words r) (roots r) (setting r) (startOf (every r) (roots r) (first r)) (take (end r) (list r))) (sym e)
+          (record { moves = counted-moves l; records = counted-records l });
       noted = round r .noted;
       shut = λ b k h.
-          ap (λ (x : Outcome). openAfter x k) (outcome-is a)
-          ∙ shut-off c (omega (arith, b, round r .kept)) k h (decLt (l .loop2-test .dealt) (end r));
+          ap (λ (x : Ran). openAfter (x .outcome) k) e
+          ∙ ap (λ (x : Outcome). openAfter x k) (outcome-is a)
+          ∙ shut-off z (omega (arith, b, round r .kept)) k h (decLt (l .loop2-test .dealt) (end r));
     }
 
 -- ---- what a turn asks
@@ -956,8 +1045,8 @@ mul-mover c = search needs
 array-copy-out-mover : tie.Need-array-copy-out-mover Inv-loop2 μ-loop2 Inv-loop3 μ-loop3 Inv-loop μ-loop
 array-copy-out-mover c = search needs
 
-enum-known-begun : tie.Need-enum-known-begun Inv-loop2 μ-loop2 Inv-loop3 μ-loop3 Inv-loop μ-loop
-enum-known-begun c = search needs
+enum-known-begun-2 : tie.Need-enum-known-begun-2 Inv-loop2 μ-loop2 Inv-loop3 μ-loop3 Inv-loop μ-loop
+enum-known-begun-2 c = search needs
 
 no-entry-requires : tie.Need-no-entry-requires Inv-loop2 μ-loop2 Inv-loop3 μ-loop3 Inv-loop μ-loop
 no-entry-requires c κs = search needs
@@ -974,36 +1063,42 @@ array-set-from-heads-2 c = search needs
 no-object-requires : tie.Need-no-object-requires Inv-loop2 μ-loop2 Inv-loop3 μ-loop3 Inv-loop μ-loop
 no-object-requires c κs = search needs
 
+remainder-requires : tie.Need-remainder-requires Inv-loop2 μ-loop2 Inv-loop3 μ-loop3 Inv-loop μ-loop
+remainder-requires c κs = search needs
+
 mul-objects : tie.Need-mul-objects Inv-loop2 μ-loop2 Inv-loop3 μ-loop3 Inv-loop μ-loop
-mul-objects c = search needs
+mul-objects c = record { fits = omega (arith, c .remainder .ensures) }
 
 array-set-from-objects : tie.Need-array-set-from-objects Inv-loop2 μ-loop2 Inv-loop3 μ-loop3 Inv-loop μ-loop
-array-set-from-objects c = search needs
+array-set-from-objects c = omega (arith, c .remainder .ensures)
 
 add-i-4 : tie.Need-add-i-4 Inv-loop2 μ-loop2 Inv-loop3 μ-loop3 Inv-loop μ-loop
 add-i-4 c = record {
   fits = omega (
     arith,
-    few (c .before .before .before .before .before .before .before .before .before .before .before .before .before
-        .before .before),
+    few (since (c .before .before .before .before .before .before .before .before .before .before .before .before
+        .before .before)),
   );
 }
 
 loop2-less-4 : tie.Need-loop2-less-4 Inv-loop2 μ-loop2 Inv-loop3 μ-loop3 Inv-loop μ-loop
 loop2-less-4 c = omega (
   arith,
-  begun (c .before .before .before .before .before .before .before .before .before .before .before .before .before .before
-      .before),
+  begun (since (c .before .before .before .before .before .before .before .before .before .before .before .before .before
+      .before)),
 )
 
 forked-requires : tie.Need-forked-requires Inv-loop2 μ-loop2 Inv-loop3 μ-loop3 Inv-loop μ-loop
 forked-requires c κs = search needs
 
+remainder-requires-2 : tie.Need-remainder-requires-2 Inv-loop2 μ-loop2 Inv-loop3 μ-loop3 Inv-loop μ-loop
+remainder-requires-2 c κs = search needs
+
 mul-heads-2 : tie.Need-mul-heads-2 Inv-loop2 μ-loop2 Inv-loop3 μ-loop3 Inv-loop μ-loop
-mul-heads-2 c = search needs
+mul-heads-2 c = record { fits = omega (arith, c .remainder2 .ensures) }
 
 array-set-from-heads-3 : tie.Need-array-set-from-heads-3 Inv-loop2 μ-loop2 Inv-loop3 μ-loop3 Inv-loop μ-loop
-array-set-from-heads-3 c = search needs
+array-set-from-heads-3 c = omega (arith, c .remainder2 .ensures)
 
 moved-requires-2 : tie.Need-moved-requires-2 Inv-loop2 μ-loop2 Inv-loop3 μ-loop3 Inv-loop μ-loop
 moved-requires-2 c κs = search needs
@@ -1038,26 +1133,29 @@ mul-cells c = record { fits = omega (arith, c .before .before .cell-of2 .ensures
 array-set-from-cells : tie.Need-array-set-from-cells Inv-loop2 μ-loop2 Inv-loop3 μ-loop3 Inv-loop μ-loop
 array-set-from-cells c = c .before .before .cell-of2 .ensures .inside
 
+remainder-requires-3 : tie.Need-remainder-requires-3 Inv-loop2 μ-loop2 Inv-loop3 μ-loop3 Inv-loop μ-loop
+remainder-requires-3 c κs = search needs
+
 mul-objects-2 : tie.Need-mul-objects-2 Inv-loop2 μ-loop2 Inv-loop3 μ-loop3 Inv-loop μ-loop
-mul-objects-2 c = search needs
+mul-objects-2 c = record { fits = omega (arith, c .remainder3 .ensures) }
 
 array-set-from-objects-2 : tie.Need-array-set-from-objects-2 Inv-loop2 μ-loop2 Inv-loop3 μ-loop3 Inv-loop μ-loop
-array-set-from-objects-2 c = search needs
+array-set-from-objects-2 c = omega (arith, c .remainder3 .ensures)
 
 add-i-5 : tie.Need-add-i-5 Inv-loop2 μ-loop2 Inv-loop3 μ-loop3 Inv-loop μ-loop
 add-i-5 c = record {
   fits = omega (
     arith,
-    few (c .before .before .before .before .before .before .before .before .before .before .before .before .before
-        .before .before .before .before .before .before .before .before .before .before .before),
+    few (since (c .before .before .before .before .before .before .before .before .before .before .before .before
+        .before .before .before .before .before .before .before .before .before .before .before)),
   );
 }
 
 loop2-less-5 : tie.Need-loop2-less-5 Inv-loop2 μ-loop2 Inv-loop3 μ-loop3 Inv-loop μ-loop
 loop2-less-5 c = omega (
   arith,
-  begun (c .before .before .before .before .before .before .before .before .before .before .before .before .before .before
-      .before .before .before .before .before .before .before .before .before .before),
+  begun (since (c .before .before .before .before .before .before .before .before .before .before .before .before .before
+      .before .before .before .before .before .before .before .before .before .before)),
 )
 
 pub explore-spec : {M : Type 1} → statement M
@@ -1084,31 +1182,33 @@ explore-spec =
     (λ c κs. search needs) (λ c. search needs) (λ c. search needs) (λ c. search needs) (λ c. search needs)
     (λ c. search needs) (λ c. search needs) (λ c κs. sym (c .before .before .before .before .before .before .before .goes-on .ensures) ∙ c .before .before
     .before .before .before .before .if3 .left)
-    -- what it comes to
-    (λ c κs. search needs) (λ c. search needs) (λ c. search needs)
     -- it is passed over
-    (λ c. search needs) (λ c. record { fits = omega (arith, few (c .before .before)) }) (λ c. omega (arith, begun (c .before .before))) loop2-again-3
+    (λ c. search needs) (λ c. search needs) (λ c. record { fits = omega (arith, few (c .before .before)) }) (λ c. omega (arith, begun (c .before .before)))
+    loop2-again-3
     -- it stops
     (λ c κs. fits (c .before .before .before .before .before))
+    -- it refocuses
+    (λ c κs. search needs) (λ c κs. search needs) (λ c κs. search needs)
     -- it only goes on elsewhere
-    mul-mover array-copy-out-mover enum-known-begun no-entry-requires (λ c κs. fits (c .before .before .before .before .before .before .before .before))
+    mul-mover array-copy-out-mover enum-known-begun-2 no-entry-requires (λ c κs. fits (since (c .before .before .before .before .before .before .before)))
     gone-requires
-    mul-heads array-set-from-heads-2 no-object-requires mul-objects array-set-from-objects moved-requires
+    mul-heads array-set-from-heads-2 no-object-requires remainder-requires mul-objects array-set-from-objects moved-requires
     add-i-4 loop2-less-4 loop2-again-4
     -- the queues, and its record
-    slice-aggregate-after after-requires (λ c κs. fits (c .before .before .before .before .before .before .before .before .before .before .before .before
-    .before))
+    slice-aggregate-after after-requires (λ c κs. fits (since (c .before .before .before .before .before .before .before .before .before .before .before
+    .before)))
     -- a new thread and the mover, or the mover alone
-    forked-requires mul-heads-2 array-set-from-heads-3 moved-requires-2 mul-heads-3 array-set-from-heads-4
+    forked-requires remainder-requires-2 mul-heads-2 array-set-from-heads-3 moved-requires-2 mul-heads-3 array-set-from-heads-4
     moved-requires-3 mul-heads-4 array-set-from-heads-5
     -- the cell, the object
     changes-requires cell-of-requires-2 keep-requires
     mul-cells array-set-from-cells
-    mul-objects-2 array-set-from-objects-2
+    remainder-requires-3 mul-objects-2 array-set-from-objects-2
     -- the counts, and the next pick
     moved-requires-4 add-i-5 loop2-less-5 loop2-again-5
     -- the threads at the end of a round
-    loop3-holds (λ c κs. search needs) (λ c. search needs) (λ c. search needs) (λ c. search needs) (λ c. search needs) loop3-again
+    loop3-holds (λ c κs. search needs) (λ c. search needs) (λ c. search needs) (λ c. search needs)
+    (λ c. one-less _ (c .before .before .before .loop3-test .taken)) loop3-again
     (λ c. search needs) (λ c. search needs) (λ c κs. search needs) (λ c. search needs) (λ c. search needs) (λ c κs. search needs)
     (λ c. search needs) (λ c. search needs) (λ c. search needs) (λ c. search needs) (λ c. search needs) (λ c. search needs)
     (λ c κs. search needs) (λ c. search needs) (λ c. search needs) add-thread-2 loop3-less-2 loop3-again-2
@@ -1116,4 +1216,4 @@ explore-spec =
     (λ c κs. search needs) (λ c κs. search needs)
     note-requires slice-write-notes add-to loop-less loop-again
     -- the end
-    same-length same-length-2 returns)
+    result-requires same-length same-length-2 returns)

@@ -1,6 +1,6 @@
 -- `thread_of` meets its contract. Assumes nothing.
 use borrow.Author.Tests.{le-leb, lt-leb}
-use Rattle.run_engine.specs.inner.Machine.{threadBy}
+use Rattle.run_engine.specs.inner.Engine.{threadBy}
 use borrow.Author.Needs.{needs}
 use Rattle.run_engine.proofs.thread_of.Statement.{statement}
 use Rattle.run_engine.proofs.thread_of.Tie as tie

@@ -9,7 +9,7 @@ use lib.ListN.{length, getD, take, drop}
 use Rattle.run_outcome.specs.declared.Outcome.{Outcome}
 use Rattle.run_state.specs.declared.Setting.{Setting}
 use Rattle.run_engine.specs.declared.Explored.{Explored}
-use Rattle.run_engine.specs.inner.Machine.{Machine, Played, playOf, CountedBefore}
+use Rattle.run_engine.specs.inner.Engine.{EngineState, Played, playOf, CountedBefore}
 use Rattle.run_open_threads.specs.inner.Open.{openAfter, LowestFrom}
 
 -- the picks: the given ones, and behind them those that are noted, 16 times in each note
@@ -38,8 +38,8 @@ pub record NotedAt (o : Outcome) (p note : ℕ) : Type 0 where
   pub lowest : LowestFrom (openAfter o) 0 (note / 16)
   pub higher : LowestFrom (openAfter o) (p % 8 + 1) (note % 16)
 
--- the run from a machine: where no note is lent, of the given picks; else behind them by the lowest thread, to the last place, to a stop, or to where none can
-module _ (ws rs : List ℕ) (g : Setting) (m : Machine) (picks : List ℕ) where
+-- the run from a state: where no note is lent, of the given picks; else behind them by the lowest thread, to the last place, to a stop, or to where none can
+module _ (ws rs : List ℕ) (g : Setting) (m : EngineState) (picks : List ℕ) where
   -- the run of the first k picks
   abbrev pub firstRun : List ℕ → ℕ → Played
   firstRun notes k = playOf ws rs g m (take k (allPicks picks notes)) 0

@@ -1,51 +1,20 @@
 -- `refocus` meets its contract. Assumes nothing.
-use mathlib.Core.Path.{sym, ap, _∙_}
-use Rattle.run_pick.specs.declared.Begun.{Begun}
-use Rattle.run_frames.specs.declared.refocusing.Refocusing.{Refocusing}
-use Rattle.run_pick.specs.inner.Pick.{refocusingsFrom, reachedAt, reachOf}
-use Rattle.run_pick.proofs.Reach.{refocuses}
+use mathlib.Core.Path.{_≡_, _∙_}
 use borrow.Author.Needs.{needs}
 use Rattle.run_pick.proofs.refocus.Statement.{statement}
 use Rattle.run_pick.proofs.refocus.Tie as tie
 
-enum-told : tie.Need-enum-told
-enum-told c = search needs
+mover-way-requires : tie.Need-mover-way-requires
+mover-way-requires c κs = search needs
 
-enum-known-begun : tie.Need-enum-known-begun
-enum-known-begun c = search needs
+forked-way-requires : tie.Need-forked-way-requires
+forked-way-requires c κs = search needs
 
-go-of-requires : tie.Need-go-of-requires
-go-of-requires c κs = search needs
-
-refocus-from-requires : tie.Need-refocus-from-requires
-refocus-from-requires c κs = search needs
+refocus-requires : tie.Need-refocus-requires
+refocus-requires c κs = rw (c .before .before .mover-way .ensures, c .before .forked-way .ensures) (search needs, search needs, search needs, search needs)
 
 returns : tie.Need-returns
-returns c = let s = c .before .before in
-    ap (λ (b : Begun). reachOf (s .args .words .now) (s .args .roots .now) (s .args .counts) (s .args .head) (s .args .thread) b (s .args .stack .now))
-    (sym (c .enum-told .given .1))
-
-returns-2 : tie.Need-returns-2
-returns-2 c = let s = c .before .before .before in
-    ap (λ (b : Begun). reachOf (s .args .words .now) (s .args .roots .now) (s .args .counts) (s .args .head) (s .args .thread) b (s .args .stack .now))
-    (sym (c .before .begun .given .1))
-
-returns-3 : tie.Need-returns-3
-returns-3 c = let s = c .before .before .before .before in
-    c .refocus-from .ensures
-    ∙ ap (λ (g : Refocusing). reachedAt (refocusingsFrom (s .args .words .now) (s .args .roots .now) (s .args .counts) (s .args .head) (s .args .thread) g
-    (s .args .stack .now)))
-    (c .before .go-of .ensures)
-    ∙ sym (refocuses (s .args .begun) _ _ (c .before .before .before .match .keys3))
+returns c = c .refocus .ensures .0 ∙ rw (c .before .before .before .mover-way .ensures, c .before .before .forked-way .ensures)
 
 pub refocus-spec : {M : Type 1} → statement M
-refocus-spec =
-    tie.close
-    (tie.spec
-    enum-told
-    enum-known-begun
-    go-of-requires
-    refocus-from-requires
-    returns
-    returns-2
-    returns-3)
+refocus-spec = tie.close (tie.spec mover-way-requires forked-way-requires refocus-requires returns)

@@ -11,7 +11,7 @@ use Rattle.run_frames.specs.declared.refocusing.Refocusing.{Refocusing}
 use Rattle.run_frames.specs.inner.Going.{readyOf, goRun, goFull}
 use Rattle.run_refocusing.specs.declared.Refocused.{Refocused}
 use Rattle.run_refocusing.specs.declared.Way.{Way}
-use Rattle.run_refocusing.specs.inner.Refocusing.{Stack, Ended, Ends, refocusOf, refocusedOf, refocusFrom, afterOf}
+use Rattle.run_refocusing.specs.inner.Refocusing.{Stack, Ended, Ends, refocusOf, noRefocusing, refocusFrom, afterOf}
 pub use Rattle.run_refocusing.specs.inner.Refocusing.{fullBy, fullOf}
 use Rattle.run_outcome.specs.declared.NoRoom.{NoRoom}
 use Rattle.run_outcome.specs.declared.NoRoom.the-variants as room
@@ -31,8 +31,6 @@ use Rattle.run_act.specs.inner.Act.{goesOnBy, actPure, actOf}
 use Rattle.run_pick.specs.declared.Met.{Met}
 use Rattle.run_pick.specs.declared.Begun.{Begun}
 use Rattle.run_pick.specs.declared.Begun.the-variants as begun
-use Rattle.run_pick.specs.declared.Reached.{Reached}
-use Rattle.run_pick.specs.declared.Reached.the-variants as reached
 use Rattle.run_pick.specs.inner.Answer.{Move, PickAnswer, PickAnswer as answer}
 
 -- a pick's answer, with the frames that it leaves
@@ -155,27 +153,6 @@ goOf (begun.Stopped e y) = goFull
 goOf (begun.Went g) = g
 goOf (begun.Acted a) = a .go
 
--- how far it comes, with the frames that it leaves
-pub record Came : Type 0 where
-  pub stack : Stack
-  pub reached : Reached
-
-abbrev pub came : Stack → Reached → Came
-came k z = record { stack = k; reached = z }
-
--- the refocusings of a move of thread p, whose head is h, and what they come to
+-- the refocusings of a move of thread p, whose head is h
 abbrev pub refocusingsFrom : List ℕ → List ℕ → Counts → Head → ℕ → Refocusing → Stack → Ends
-refocusingsFrom ws rs n h p g k = afterOf ws rs (forksOf h) (forkedWay n h) (refocusedOf g (h .depth % 33)) (refocusFrom ws rs (moverWay p h g) k)
-
-unfoldable pub reachedAt : Ends → Came
-reachedAt e = cond (fullOf (e .refocusings .last)) (came (e .stack) (reached.Stopped (stop.NoRoom room.Depth) noEntry))
-    (came (e .stack) (reached.Refocused (e .refocusings)))
-
-abbrev pub reachBy : Begun → Stack → Came → Came
-reachBy begun.Passed k c = came k reached.Passed
-reachBy (begun.Stopped e y) k c = came k (reached.Stopped e y)
-reachBy (begun.Went g) k c = c
-reachBy (begun.Acted a) k c = c
-
-abbrev pub reachOf : List ℕ → List ℕ → Counts → Head → ℕ → Begun → Stack → Came
-reachOf ws rs n h p b k = reachBy b k (reachedAt (refocusingsFrom ws rs n h p (goOf b) k))
+refocusingsFrom ws rs n h p g k = afterOf ws rs (forksOf h) (forkedWay n h) noRefocusing (refocusFrom ws rs (moverWay p h g) k)

@@ -1,8 +1,8 @@
 -- Refocusing: steps until the redex that moves next is found. The machine that the code runs; no reader of the entries' promises needs it. Assumes nothing.
-use Prim.Native.Nat.{ℕ, zero, suc, _+_, _-_, _*_}
+use Prim.Native.Nat.{ℕ, zero, suc, _+_, _*_}
 use mathlib.Core.Bool.{Bool, true, false, cond}
 use mathlib.Core.List.{List}
-use lib.Dec.{eqb, ltb}
+use lib.Dec.{ltb}
 use lib.ListN.{set}
 use Rattle.run_frames.specs.declared.frame.Frame.{Frame}
 use Rattle.run_frames.specs.declared.refocusing.Stage.{Stage}
@@ -14,7 +14,7 @@ use Rattle.run_refocusing.specs.declared.Way.{Way}
 use Rattle.run_refocusing.specs.declared.Refocusings.{Refocusings}
 use Rattle.run_frames.specs.inner.Frames.{packOf}
 use Rattle.run_frames.specs.inner.Going.{readyIn, goFull}
-use Rattle.run_refocusing_step.specs.inner.Down.{frameAt, stepOf}
+use Rattle.run_refocusing_step.specs.inner.Down.{frameAt, topOf, stepOf}
 
 abbrev pub liveBy : Stage → Bool
 liveBy stage.Full = false
@@ -30,9 +30,6 @@ liveBy stage.Truth = true
 abbrev pub liveOf : Refocusing → Bool
 liveOf g = liveBy (g .stage)
 
-abbrev pub topOf : ℕ → ℕ → ℕ
-topOf base d = cond (eqb d 0) base (base + (d - 1))
-
 -- the frames of all threads, three numbers to a frame
 abbrev pub Stack : Type 0
 Stack = List ℕ
@@ -43,6 +40,10 @@ pub record Ended : Type 0 where
 
 abbrev pub refocusedOf : Refocusing → ℕ → Refocused
 refocusedOf g d = record { stage = g .stage; ready = readyIn g; depth = d }
+
+-- none before the first
+abbrev pub noRefocusing : Refocused
+noRefocusing = refocusedOf goFull 0
 
 abbrev pub ended : Stack → Refocusing → ℕ → Ended
 ended k g d = record { stack = k; refocused = refocusedOf g d }

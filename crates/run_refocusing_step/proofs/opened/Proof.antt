@@ -11,8 +11,8 @@ enum-told c = search needs
 word-requires : tie.Need-word-requires
 word-requires c κs = search needs
 
-run-requires : tie.Need-run-requires
-run-requires c κs = search needs
+open-expression-requires : tie.Need-open-expression-requires
+open-expression-requires c κs = search needs
 
 enum-told-2 : tie.Need-enum-told-2
 enum-told-2 c = search needs
@@ -20,14 +20,14 @@ enum-told-2 c = search needs
 word-requires-2 : tie.Need-word-requires-2
 word-requires-2 c κs = search needs
 
-run-condition-requires : tie.Need-run-condition-requires
-run-condition-requires c κs = search needs
+open-condition-requires : tie.Need-open-condition-requires
+open-condition-requires c κs = search needs
 
 returns : tie.Need-returns
-returns c = simp (c .run .ensures, c .before .word .ensures, c .before .before .enum-told .given .1)
+returns c = simp (c .open-expression .ensures, c .before .word .ensures, c .before .before .enum-told .given .1)
 
 returns-2 : tie.Need-returns-2
-returns-2 c = simp (c .run-condition .ensures, c .before .word2 .ensures, c .before .before .enum-told2 .given .1)
+returns-2 c = simp (c .open-condition .ensures, c .before .word2 .ensures, c .before .before .enum-told2 .given .1)
 
 returns-3 : tie.Need-returns-3
 returns-3 c = let a = c .before .before .args in sym (opened-other (a .go .stage) (a .words .now) (a .go) (c .match .keys3))
@@ -38,10 +38,10 @@ opened-spec =
     (tie.spec
     enum-told
     word-requires
-    run-requires
+    open-expression-requires
     enum-told-2
     word-requires-2
-    run-condition-requires
+    open-condition-requires
     returns
     returns-2
     returns-3)

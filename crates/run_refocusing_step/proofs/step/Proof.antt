@@ -4,7 +4,7 @@ use Rattle.run_refocusing_step.proofs.Others.{step-other}
 use Rattle.run_refocusing_step.proofs.Along.{along-step}
 use Rattle.run_refocusing_step.specs.declared.Turn.{Turn}
 use Rattle.run_refocusing_step.specs.inner.Ahead.{aheadOf}
-use Rattle.run_refocusing_step.specs.inner.Down.{frameAt, openedOf, downOf, stepOf}
+use Rattle.run_refocusing_step.specs.inner.Down.{frameAt, topOf, openedOf, downOf, stepOf}
 use borrow.Author.Needs.{needs}
 use Rattle.run_refocusing_step.proofs.step.Statement.{statement}
 use Rattle.run_refocusing_step.proofs.step.Tie as tie
@@ -12,8 +12,11 @@ use Rattle.run_refocusing_step.proofs.step.Tie as tie
 enum-told : tie.Need-enum-told
 enum-told c = search needs
 
+top-requires : tie.Need-top-requires
+top-requires c κs = search needs
+
 frame-at-requires : tie.Need-frame-at-requires
-frame-at-requires c κs = search needs
+frame-at-requires c κs = c .top .ensures .1
 
 back-requires : tie.Need-back-requires
 back-requires c κs = search needs
@@ -21,8 +24,11 @@ back-requires c κs = search needs
 enum-told-2 : tie.Need-enum-told-2
 enum-told-2 c = search needs
 
+top-requires-2 : tie.Need-top-requires-2
+top-requires-2 c κs = search needs
+
 frame-at-requires-2 : tie.Need-frame-at-requires-2
-frame-at-requires-2 c κs = search needs
+frame-at-requires-2 c κs = c .top2 .ensures .1
 
 back-condition-requires : tie.Need-back-condition-requires
 back-condition-requires c κs = search needs
@@ -41,11 +47,17 @@ wanted-requires c κs = search needs
 
 returns : tie.Need-returns
 unfolding stepOf
-returns c = simp (c .back .ensures, c .before .frame-at .ensures, c .before .before .enum-told .given .1)
+returns c = simp (c .back .ensures, c .before .frame-at .ensures, c .before .before .top .ensures .0, c .before .before .before .enum-told .given .1)
 
 returns-2 : tie.Need-returns-2
 unfolding stepOf
-returns-2 c = simp (c .back-condition .ensures, c .before .frame-at2 .ensures, c .before .before .enum-told2 .given .1)
+returns-2 c = simp (
+  c .back-condition .ensures,
+  c .before .frame-at2 .ensures,
+  c .before .before .top2 .ensures .0,
+  c .before .before .before .enum-told2
+      .given .1,
+)
 
 returns-3 : tie.Need-returns-3
 unfolding stepOf
@@ -53,7 +65,7 @@ returns-3 c =
     let a = c .before .before .before .before .before .before .args in
     let ws = a .words .now in
     let o = openedOf ws (a .go) in
-    let x = frameAt (a .stack .now) (a .place) in
+    let x = frameAt (a .stack .now) (topOf (a .base) (a .depth)) in
     let h : stepOf ws (a .roots .now) (a .go) (a .depth) x ≡ downOf ws (a .roots .now) (a .go) (a .depth) =
     step-other (a .go .stage) ws (a .roots .now) (a .go) (a .depth) x (c .before .before .before .before .before .match .keys3) in
     simp (c .wanted .ensures, c .before .listed .ensures, c .before .before .before .ahead .ensures, c .before .before .before .before .opened .ensures)
@@ -65,9 +77,11 @@ step-spec =
     tie.close
     (tie.spec
     enum-told
+    top-requires
     frame-at-requires
     back-requires
     enum-told-2
+    top-requires-2
     frame-at-requires-2
     back-condition-requires
     opened-requires

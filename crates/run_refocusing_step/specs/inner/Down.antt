@@ -77,9 +77,9 @@ unfolding simpleBy
 simpleOf w environment = simpleBy (tagOf w) w environment
 
 -- an expression, by its tag k
-unfoldable pub runBy : ℕ → ℕ → ℕ → Refocusing
+unfoldable pub openExpressionBy : ℕ → ℕ → ℕ → Refocusing
 unfolding simpleOf
-runBy k w environment =
+openExpressionBy k w environment =
     cond (eqb k 3) (goWant (framed kind.Read 0 0 (fieldBits w) environment) (firstOf w))
     (cond (eqb k 4) (goWant (framed kind.Write1 (writeSecond w) 0 (fieldBits w) environment) (firstOf w))
     (cond (eqb k 5) (goWant (letFrame (slotBits w) (letSecond w) environment) (letFirst w))
@@ -88,29 +88,29 @@ runBy k w environment =
     (cond (eqb k 10) (goWant (framed kind.Join 0 0 0 environment) (firstOf w))
     (cond (eqb k 11) (goWant (framed kind.Synch (secondOf w) 0 0 environment) (firstOf w)) (simpleOf w environment)))))))
 
-unfoldable pub runOf : ℕ → ℕ → Refocusing
-unfolding runBy
-runOf w environment = runBy (tagOf w) w environment
+unfoldable pub openExpressionOf : ℕ → ℕ → Refocusing
+unfolding openExpressionBy
+openExpressionOf w environment = openExpressionBy (tagOf w) w environment
 
 -- a condition, by its tag k
-unfoldable pub runConditionBy : ℕ → ℕ → ℕ → Refocusing
-runConditionBy k w environment =
+unfoldable pub openConditionBy : ℕ → ℕ → ℕ → Refocusing
+openConditionBy k w environment =
     cond (eqb k 12) (goTruth 1)
     (cond (eqb k 13) (goWantCondition (framed kind.Not 0 0 0 environment) (firstOf w))
     (cond (eqb k 14) (goWantCondition (framed kind.And (secondOf w) 0 0 environment) (firstOf w))
     (cond (eqb k 15) (goWant (framed kind.Equal1 (secondOf w) 0 0 environment) (firstOf w)) (goAt noRule))))
 
-unfoldable pub runConditionOf : ℕ → ℕ → Refocusing
-unfolding runConditionBy
-runConditionOf w environment = runConditionBy (tagOf w) w environment
+unfoldable pub openConditionOf : ℕ → ℕ → Refocusing
+unfolding openConditionBy
+openConditionOf w environment = openConditionBy (tagOf w) w environment
 
 -- ---- a way down, in three parts
 
 abbrev pub openedBy : Stage → List ℕ → Refocusing → Refocusing
 openedBy stage.Full ws g = g
 openedBy stage.At ws g = g
-openedBy stage.Run ws g = runOf (wordAt ws (g .operand)) (g .frame .environment)
-openedBy stage.RunCondition ws g = runConditionOf (wordAt ws (g .operand)) (g .frame .environment)
+openedBy stage.Run ws g = openExpressionOf (wordAt ws (g .operand)) (g .frame .environment)
+openedBy stage.RunCondition ws g = openConditionOf (wordAt ws (g .operand)) (g .frame .environment)
 openedBy stage.Want ws g = g
 openedBy stage.WantCondition ws g = g
 openedBy stage.List ws g = g
@@ -164,6 +164,10 @@ backConditionOf f b d = cond (eqb d 0) (stayOf (goAt noRule) d) (stayOf (feedCon
 -- the frames of all threads, three numbers to a frame
 abbrev pub frameAt : List ℕ → ℕ → Frame
 frameAt k i = unpackOf (getD k (i * 3) 0) (getD k (i * 3 + 1) 0) (getD k (i * 3 + 2) 0)
+
+-- the place of the top one, of a thread whose places start at base
+abbrev pub topOf : ℕ → ℕ → ℕ
+topOf base d = cond (eqb d 0) base (base + (d - 1))
 
 abbrev pub stepBy : Stage → List ℕ → List ℕ → Refocusing → ℕ → Frame → Turn
 stepBy stage.Full ws rs g d f = downOf ws rs g d

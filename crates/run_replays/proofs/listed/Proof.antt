@@ -54,24 +54,21 @@ returns-2 c =
     let r = c .before .before .before .before in
     not-all (began r .args .n) (r .explore .ensures) (most r) (long r) _ (c .if2 .taken)
 
-stop-count-requires : tie.Need-stop-count-requires
-stop-count-requires c κs = search needs
-
-add-result : tie.Need-add-result
-add-result c =
-    let t = c .before .before .before .before in
+all-counted-requires : tie.Need-all-counted-requires
+all-counted-requires c κs =
+    let t = c .before .before in
     let r = t .before .before .before .before in
     let o = its-outcome (began r .args .n) (r .explore .ensures) (most r) (long r) [] (t .if2 .left) in
-    record { fits = omega (arith, few-counts _ _ _ o, c .before .stop-count .ensures, most r, began r .pre .bound) }
+    omega (arith, few-counts _ _ _ o, most r, began r .pre .bound)
 
 same-length-2 : tie.Need-same-length-2
 same-length-2 c = search needs
 
 returns-3 : tie.Need-returns-3
 returns-3 c =
-    let t = c .before .before .before .before in
+    let t = c .before .before .before in
     let r = t .before .before .before .before in
-    rw (c .before .stop-count .ensures)
+    rw (c .all-counted .ensures)
     (by-count (began r .args .n) (r .explore .ensures) (most r) (long r) _ (t .if2 .left) (began r .pre .of-eight))
 
 pub listed-spec : {M : Type 1} → statement M
@@ -85,7 +82,6 @@ listed-spec =
     explore-requires
     same-length
     returns-2
-    stop-count-requires
-    add-result
+    all-counted-requires
     same-length-2
     returns-3)

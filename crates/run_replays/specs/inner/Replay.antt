@@ -9,8 +9,6 @@ use Rattle.plan_packed.specs.Format.{terms}
 use Rattle.plan_packed.specs.Trees.{programOf}
 use Rattle.plan_packed.specs.Check.{refusal}
 use Rattle.plan_packed.specs.inner.Steps.{Loaded}
-use Rattle.run_outcome.specs.declared.Stop.{Stop}
-use Rattle.run_outcome.specs.declared.Stop.the-variants as stop
 use Rattle.run_open_threads.specs.inner.Open.{LowestFrom}
 use Rattle.run_engine.specs.declared.Explored.{Explored}
 use Rattle.run_engine.specs.inner.Exploring.{allPicks}
@@ -25,12 +23,6 @@ pub record Accepted (plan words : List ℕ) : Type 0 where
 -- picks of eight threads
 abbrev pub OfEight : List ℕ → Type 0
 OfEight picks = (j : ℕ) → j < length picks → getD picks j 0 < 8
-
--- one for a run that stopped
-abbrev pub stopCount : Stop → ℕ
-stopCount stop.End = 0
-stopCount stop.Race = 1
-stopCount (stop.NoRoom k) = 1
 
 -- a plan, picks, and room for a note to each and more, few enough for a bound
 pub record Replayable (plan words picks notes : List ℕ) : Type 0 where

@@ -1,20 +1,21 @@
 -- What a run counts, and its records in the log: the machine that the code runs; no reader of the entries' promises needs it. Assumes nothing.
-use Prim.Native.Nat.{ℕ, _+_, _*_, _/_, _%_}
+use Prim.Native.Nat.{ℕ, _+_}
 use mathlib.Core.Bool.{Bool, cond}
 use mathlib.Core.List.{List}
 use lib.Dec.{eqb}
-use lib.ListN.{set}
+use Rattle.log_packing.specs.inner.Packing.{wordOf, putAt}
 use Rattle.run_state.specs.declared.Counts.{Counts}
 use Rattle.run_state.specs.declared.Entry.{Entry}
 use Rattle.run_state.specs.inner.Acted.{countsOf, entryOf}
+use Rattle.run_outcome.specs.declared.Stop.{Stop}
+use Rattle.run_outcome.specs.declared.Thread.{Thread}
+use Rattle.run_outcome.specs.declared.Outcome.{Outcome}
 use Rattle.run_tally.specs.declared.Tally.{Tally}
+use Rattle.run_tally.specs.declared.Ran.{Ran}
 
-abbrev pub wordOf : ℕ → Entry → ℕ
-wordOf p e = (((e .kind % 16 * 8 + p % 8) * 32 + e .object % 32) * 32 + e .field % 32) * 128 + e .value % 32 * 4
-
+-- the log with the thread's record as record n, unless it has none
 unfoldable pub logPut : List ℕ → ℕ → ℕ → Entry → List ℕ
-logPut l n p e = cond (eqb (e .kind) 0) l
-    (set (set (set l (n * 3) (wordOf p e / 65536 % 256)) (n * 3 + 1) (wordOf p e / 256 % 256)) (n * 3 + 2) (wordOf p e % 256))
+logPut l n p e = cond (eqb (e .kind) 0) l (putAt l n (wordOf (e .kind) p (e .object) (e .field) (e .value)))
 
 unfoldable pub recordsAfter : ℕ → Entry → ℕ
 recordsAfter n e = cond (eqb (e .kind) 0) n (n + 1)
@@ -31,3 +32,11 @@ tallyMoved s n = record { counts = n; moves = s .moves + 1; records = s .records
 
 abbrev pub tallyFirst : Tally
 tallyFirst = record { counts = countsOf 1 1 1; moves = 0; records = 0 }
+
+-- the outcome of a run that ended so behind so many picks
+abbrev pub outcomeOf : Stop → ℕ → Tally → List Thread → Outcome
+outcomeOf e i s ts = record { stop = e; picks = i; moves = s .moves; records = s .records; threads = ts }
+
+-- what it comes to, with its moves and records before the last pick that it met
+abbrev pub resultOf : Stop → ℕ → Tally → ℕ → ℕ → List Thread → Ran
+resultOf e i s moves records ts = record { outcome = outcomeOf e i s ts; before = record { moves = moves; records = records } }

@@ -1,4 +1,5 @@
 -- `write` meets its contract. Assumes nothing.
+use native.Mathlib.Omega.{arith}
 use mathlib.Core.Path.{refl, ap, _∙_}
 use mathlib.Core.Logic.{inl, inr}
 use lib.ListN as L
@@ -8,24 +9,43 @@ use borrow.Author.Needs.{needs}
 use Rattle.show.proofs.write.Statement.{statement}
 use Rattle.show.proofs.write.Tie as tie
 
-length-requires : tie.Need-length-requires
-length-requires c κs = c .before .before .pre
+rows-requires : tie.Need-rows-requires
+rows-requires c κs = search needs
 
-returns : tie.Need-returns
-returns c = inl (record { short = rw (c .before .length .ensures) at (c .if1 .taken); kept = refl; refused = refl })
-
-lay-out-requires : tie.Need-lay-out-requires
-lay-out-requires c κs = (c .before .before .before .before .before .pre, rw (c .before .before .length .ensures) at (c .before .if1 .left))
+measure-requires : tie.Need-measure-requires
+measure-requires c κs = let s = c .before .before .before .before .before .before in ((c .before .before .rows .ensures, s .pre .0), (s .pre .1, s .pre .2))
 
 same-length : tie.Need-same-length
-same-length c =
-    ap L.length (c .before .before .lay-out .ensures)
-    ∙ overwrite-length _ _ (rw (c .before .before .before .before .before .length .ensures) at (c .before .before .before .before .if1 .left))
+same-length c = search needs
+
+returns : tie.Need-returns
+returns c = inl (record { short = rw (c .before .before .before .measure .ensures .0) at (c .if1 .taken); kept = refl; refused = refl })
+
+lay-out-requires : tie.Need-lay-out-requires
+lay-out-requires c κs =
+    let s = c .before .before .before .before .before .before .before .before .before .before .before .before .before in
+    let m = c .before .before .before .before .before .before .measure .ensures in (
+      (c .before .before .before .before .before .before .before .before .before .rows .ensures, s .pre .0, m .1, s .pre .1),
+      (search (needs, s .pre .2), m .0, c .before .before .before .if1 .left),
+    )
+
+same-length-2 : tie.Need-same-length-2
+same-length-2 c = search needs
+
+same-length-3 : tie.Need-same-length-3
+same-length-3 c = ap L.length (c .before .before .lay-out .ensures) ∙ overwrite-length _ _
+    (rw (c .before .before .before .before .before .before .before .before .before .measure .ensures .0) at
+    (c .before .before .before .before .before .before .if1 .left))
 
 returns-2 : tie.Need-returns-2
 returns-2 c =
-    let e = c .before .before .before .before .before .length .ensures in
-    inr (record { long = rw e at (c .before .before .before .before .if1 .left); text = c .before .before .lay-out .ensures; answer = ap Value e })
+    let e = c .before .before .before .before .before .before .before .before .before .measure .ensures .0 in
+    inr (record {
+      long = rw e at (c .before .before .before .before .before .before .if1 .left);
+      text = c .before .before .lay-out .ensures;
+      answer = ap
+          Value e;
+    })
 
 pub write-spec : {M : Type 1} → statement M
-write-spec = tie.close (tie.spec length-requires returns lay-out-requires same-length returns-2)
+write-spec = tie.close (tie.spec rows-requires measure-requires same-length returns lay-out-requires same-length-2 same-length-3 returns-2)

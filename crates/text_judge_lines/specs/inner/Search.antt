@@ -11,7 +11,7 @@ use Rattle.log_records.specs.Record.{isPlain}
 use Rattle.log_records.specs.Refusals.{logRefusal}
 use Rattle.log_order.specs.Accesses.{isWrite}
 use Rattle.log_conflicts.specs.Conflicts.{Conflicting}
-use Rattle.log_decoding.specs.declared.Columns.{Columns}
+use Rattle.log_packing.specs.declared.Columns.{Columns}
 use Rattle.text.specs.inner.Wrote.{Wrote}
 use Rattle.text_race_lines.specs.Lines.{conflictingLines}
 

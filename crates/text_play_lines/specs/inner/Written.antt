@@ -9,7 +9,7 @@ use Rattle.log_order.specs.Chains.{Unordered}
 use Rattle.run_outcome.specs.declared.Stop.{Stop}
 use Rattle.run_outcome.specs.declared.Stop.the-variants as stop
 use Rattle.play.specs.Answer.{stopOf}
-use Rattle.log_schedule_writer.specs.inner.Kept.{HasLast}
+use Rattle.log_last_write.specs.inner.LastWrite.{HasLast}
 use Rattle.text.specs.inner.Wrote.{Wrote}
 use Rattle.text_record_lines.specs.Lines.{recordLines}
 use Rattle.text_last_lines.specs.Lines.{outcomeLine}

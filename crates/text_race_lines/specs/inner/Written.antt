@@ -5,9 +5,9 @@ use lib.ListN.{length}
 use Rattle.format.specs.Version.{Version}
 use Rattle.log_records.specs.Packed.{logOf}
 use Rattle.log_order.specs.Chains.{Unordered}
-use Rattle.log_schedule_writer.specs.inner.Kept.{HasLast}
-use Rattle.log_decoding.specs.declared.Columns.{Columns}
-use Rattle.log_decoding.specs.inner.Columns.{Narrow}
+use Rattle.log_last_write.specs.inner.LastWrite.{HasLast}
+use Rattle.log_packing.specs.declared.Columns.{Columns}
+use Rattle.log_packing.specs.inner.Columns.{Narrow}
 use Rattle.text.specs.inner.Wrote.{Wrote}
 use Rattle.text_race_lines.specs.Lines.{unorderedLines}
 

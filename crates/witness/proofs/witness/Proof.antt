@@ -7,7 +7,7 @@ use Rattle.plan_refusals.proofs.Stages.{passed-none}
 use Rattle.rules.specs.Play.{scheduleRefusal}
 use Rattle.run_refusals.proofs.Passed.{scheduled}
 use Rattle.witness.specs.Witness.{refused}
-use Rattle.witness.specs.inner.Passing.{Loads}
+use Rattle.plan_left_out.specs.inner.Loads.{Loads}
 use Rattle.witness.proofs.Refusals.{by-schedule, by-15}
 use Rattle.witness.proofs.witness.Statement.{statement}
 use Rattle.witness.proofs.witness.Tie as tie

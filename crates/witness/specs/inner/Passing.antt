@@ -4,18 +4,11 @@ use mathlib.Core.Path.{_≡_}
 use mathlib.Core.Bool.{false}
 use mathlib.Core.List.{List}
 use mathlib.Core.Option.{none}
-use Rattle.plan_packed.specs.Format.{terms}
-use Rattle.plan_packed.specs.Check.{refusal}
-use Rattle.plan_packed.specs.inner.Steps.{Loaded}
 use Rattle.rules.specs.Play.{scheduleRefusal}
 use Rattle.side_by_side.specs.LeftOut.{leftOut}
+use Rattle.plan_left_out.specs.inner.Loads.{Loads}
 
--- a plan that passes, and its words
-pub record Loads (plan words : List ℕ) : Type 0 where
-  pub passes : refusal plan ≡ none
-  pub loaded : Loaded plan (terms plan) words
-
--- and a schedule, where the plan is not left out
+-- a plan that passes and is not left out, its words, and a schedule
 pub record Passing (plan words schedule : List ℕ) : Type 0 where
   pub loads : Loads plan words
   pub scheduled : scheduleRefusal plan schedule ≡ none

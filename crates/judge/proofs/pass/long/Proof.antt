@@ -7,8 +7,8 @@ use borrow.Author.Needs.{needs}
 use Rattle.judge.proofs.pass.long.Statement.{statement}
 use Rattle.judge.proofs.pass.long.Tie as tie
 
-by-some-requires : tie.Need-by-some-requires
-by-some-requires c κs = search needs
+by-sixty-four-requires : tie.Need-by-sixty-four-requires
+by-sixty-four-requires c κs = search needs
 
 full-requires : tie.Need-full-requires
 full-requires c κs = search needs
@@ -29,14 +29,14 @@ judgement-requires-2 c κs = search needs
 
 returns-2 : tie.Need-returns-2
 returns-2 c =
-    answers-found (c .before .before .before .before .before .pre) (c .before .before .before .by-some .ensures)
+    answers-found (c .before .before .before .before .before .pre) (c .before .before .before .by-sixty-four .ensures)
     (sym (c .before .before .full .ensures) ∙ c .before .if1 .left) _ (c .judgement2 .ensures)
 
 pub long-spec : {M : Type 1} → statement M
 long-spec =
     tie.close
     (tie.spec
-    by-some-requires
+    by-sixty-four-requires
     full-requires
     by-all-requires
     judgement-requires

@@ -47,7 +47,7 @@ returns : tie.Need-returns
 returns c =
     let a = c .before .before .args in (
       past-table (a .procedures) (a .count) (a .term) (a .word) (subst (λ (k : ℕ). tagCount ≤ k) (c .before .tag .ensures) (c .if1 .taken)),
-      λ q. absurd (true≢false q),
+      ((λ q. absurd (true≢false q)), λ q. absurd (true≢false q)),
     )
 
 number-requires : tie.Need-number-requires
@@ -78,7 +78,7 @@ returns-2 c =
     let a = x .before .args in (
       other-wrong (a .procedures) (a .count) (a .term) (a .word) (x .tag .result) (x .tag .ensures) (c .before .before .before .before .if1 .left) _
           (other-is (c .before)) (c .if2 .taken),
-      λ q. absurd (true≢false q),
+      ((λ q. absurd (true≢false q)), λ q. absurd (true≢false q)),
     )
 
 wrong-children-requires : tie.Need-wrong-children-requires
@@ -86,12 +86,12 @@ wrong-children-requires c κs = search needs
 
 returns-3 : tie.Need-returns-3
 returns-3 c =
-    let o = c .before .before .before .before in
+    let o = c .before .before .before .before .before in
     let x = o .before .before .before .before in
     let a = x .before .args in (
       child-wrong (a .procedures) (a .count) (a .term) (a .word) (x .tag .result) (x .tag .ensures) (o .before .before .before .if1 .left) _ (other-is o) _
-          (c .before .wrong-children .ensures .0) (c .before .before .before .if2 .left) (c .if3 .taken),
-      λ q. absurd (true≢false q),
+          (c .before .wrong-children .ensures .0) (c .before .before .before .before .if2 .left) (c .if3 .taken),
+      ((λ q. absurd (true≢false q)), λ q. absurd (true≢false q)),
     )
 
 number-requires-3 : tie.Need-number-requires-3
@@ -103,14 +103,18 @@ bits-after-requires c κs = search needs
 returns-4 : tie.Need-returns-4
 returns-4 c =
     let w = c .before .before .before in
-    let o = w .before .before .before in
+    let o = w .before .before .before .before in
     let x = o .before .before .before .before in
-    let a = x .before .args in (
+    let a = x .before .args in
+    let l = c .before .before .if3 .left in (
       by-spare (a .procedures) (a .count) (a .term) (a .word) (x .tag .result) (x .tag .ensures) (o .before .before .before .if1 .left) _ (other-is o) _
-          (w .wrong-children .ensures .0) (w .before .before .if2 .left) (c .before .before .if3 .left) _
+          (w .wrong-children .ensures .0) (w .before .before .before .if2 .left) l _
           (rw (c .before .number3 .ensures) at (c .bits-after .ensures)),
-      λ q. rw (by-tag (a .procedures) (a .count) (a .term) (a .word) (x .tag .result) (x .tag .ensures) (o .before .before .before .if1 .left)) at
-          (w .wrong-children .ensures .1 (c .before .before .if3 .left)),
+      (
+        (λ q. rw (by-tag (a .procedures) (a .count) (a .term) (a .word) (x .tag .result) (x .tag .ensures) (o .before .before .before .if1 .left)) at
+            (w .wrong-children .ensures .1 .0 l)),
+        λ q. rw (x .tag .ensures) at (w .wrong-children .ensures .1 .1 l),
+      ),
     )
 
 pub wrong-term-spec : {M : Type 1} → statement M

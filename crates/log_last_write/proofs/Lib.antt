@@ -1,0 +1,2 @@
+pub mod WriteTests
+pub mod LastWrites

@@ -1,0 +1,84 @@
+-- `log_packing::word_at` meets its contract: three bytes are 24 bits. Assumes nothing.
+use Rattle.log_records.proofs.RoundTrip.{word24}
+use mathlib.Core.List.{List}
+use native.Mathlib.Omega.{arith}
+use Prim.Native.Nat.{ℕ}
+use borrow.Author.Needs.{needs}
+use Rattle.log_packing.proofs.word_at.Statement.{statement}
+use Rattle.log_packing.proofs.word_at.Tie as tie
+
+mul-wide : tie.Need-mul-wide
+mul-wide c = search needs
+
+shared-slice-read-wide : tie.Need-shared-slice-read-wide
+shared-slice-read-wide c = search needs
+
+wide-requires : tie.Need-wide-requires
+wide-requires c κs = search needs
+
+mul-result : tie.Need-mul-result
+mul-result c = search needs
+
+mul-wide-2 : tie.Need-mul-wide-2
+mul-wide-2 c = search needs
+
+add-wide : tie.Need-add-wide
+add-wide c = search needs
+
+shared-slice-read-wide-2 : tie.Need-shared-slice-read-wide-2
+shared-slice-read-wide-2 c = search needs
+
+wide-requires-2 : tie.Need-wide-requires-2
+wide-requires-2 c κs = search needs
+
+add-result : tie.Need-add-result
+add-result c = search needs
+
+mul-result-2 : tie.Need-mul-result-2
+mul-result-2 c = search needs
+
+mul-wide-3 : tie.Need-mul-wide-3
+mul-wide-3 c = search needs
+
+add-wide-2 : tie.Need-add-wide-2
+add-wide-2 c = search needs
+
+shared-slice-read-wide-3 : tie.Need-shared-slice-read-wide-3
+shared-slice-read-wide-3 c = search needs
+
+wide-requires-3 : tie.Need-wide-requires-3
+wide-requires-3 c κs = search needs
+
+add-result-2 : tie.Need-add-result-2
+add-result-2 c = search needs
+
+returns : tie.Need-returns
+returns c =
+    let st = c .before .before .before .before .before .before .before in
+    let b : List ℕ = st .args .log .now in
+    let i : ℕ = st .args .index in
+    let x = c .before .before .before .before .wide .ensures in
+    let y = c .before .before .wide2 .ensures in
+    let z = c .wide3 .ensures in
+    (omega (arith, word24 b i (omega arith) (omega arith) (omega arith)), omega arith)
+
+pub word-at-spec : {M : Type 1} → statement M
+word-at-spec =
+    tie.close
+    (tie.spec
+    mul-wide
+    shared-slice-read-wide
+    wide-requires
+    mul-wide-2
+    add-wide
+    shared-slice-read-wide-2
+    wide-requires-2
+    mul-wide-3
+    add-wide-2
+    shared-slice-read-wide-3
+    wide-requires-3
+    mul-result
+    add-result
+    mul-result-2
+    add-result-2
+    returns)

@@ -1,0 +1,4 @@
+pub mod Handing
+pub mod Roots
+pub mod Terms
+pub mod Closing
