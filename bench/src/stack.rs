@@ -63,12 +63,28 @@ fn as_text(input: &Input, text: &mut [u8]) -> Input {
     Input { name: input.name, plan: text[..length].to_vec(), schedule: vec![] }
 }
 
+/// The input with its plan's last null made a slot that nothing binds: such a plan is walked for its refusal 7.
+fn unbound(input: &Input) -> Option<Input> {
+    let mut plan = input.plan.clone();
+    let header = u32::from_be_bytes([plan[0], plan[1], plan[2], plan[3]]);
+    let (procedures, terms) = ((header >> 22 & 63) as usize, (header >> 10 & 4095) as usize);
+    let places = (0..terms).rev().map(|term| 8 + 2 * procedures + 5 * term);
+    let at = places.into_iter().find(|&at| plan[at..at + 5] == [0; 5])?;
+    plan[at..at + 2].copy_from_slice(&[0x0b, 0x80]);
+    (library::check(&plan) >> 16 == 2 << 16 | 7).then(|| Input { name: input.name, plan, schedule: vec![] })
+}
+
 pub fn print() {
     println!("\nstack");
     let all = inputs::deepest();
     let logs = logs(&all);
     let (mut log, mut out) = (vec![0; 12288], [0; library::OUT_BYTES]);
-    most("check", 48, &all, |i| {
+    let walked: Vec<Input> = all.iter().filter_map(unbound).collect();
+    assert!(!walked.is_empty(), "no plan is walked");
+    most("check, plans that pass", 48, &all, |i| {
+        library::check(&i.plan);
+    });
+    most("check, plans that 7 refuses", 48, &walked, |i| {
         library::check(&i.plan);
     });
     most("play", 128, &all, |i| {
