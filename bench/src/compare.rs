@@ -290,7 +290,9 @@ fn read(text: &[u8], area: &[u8], seen: &mut Seen) -> Option<Vec<u8>> {
         let (mut ours, mut theirs) = (area.to_vec(), area.to_vec());
         let input = [text, area];
         let answer = same("read", &input, library::read(text, &mut ours), answers::read(text, &mut theirs));
-        (answer, same("the read plan's area", &input, ours, theirs))
+        let written = same("the read plan's area", &input, ours, theirs);
+        tuned_same("read", &input, answer, &written, &area.to_vec(), |area| tuned::read(text, area));
+        (answer, written)
     };
     let (answer, written) = once(area);
     seen.read[usize::from(answer >> 32 > 0)] += 1;

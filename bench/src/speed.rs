@@ -186,20 +186,14 @@ fn texts(inputs: &[Input]) -> Table {
     table
 }
 
-/// The shown texts, read again; there is no tuned reader.
+/// The shown texts, read again.
 fn readings(inputs: &[Input]) -> Table {
-    let sides: [Writer; 2] = [library::read, answers::read];
+    let sides: [Writer; 3] = [library::read, answers::read, tuned::read];
     let mut table = Table::new("read, a byte of text", 2);
     for input in inputs {
         let mut text = vec![0; MOST_SHOWN];
         let length = library::show(&input.plan, &mut text) as usize;
-        let [ours, theirs] = best(sides.map(|read| -> Entry {
-            let (text, mut area) = (&text[..length], vec![0; input.plan.len()]);
-            Box::new(move || {
-                black_box(read(black_box(text), &mut area));
-            })
-        }));
-        table.add(&format!("{}, {length} bytes", input.name), Times([ours, theirs, f64::NAN]).of_each(length));
+        table.add(&format!("{}, {length} bytes", input.name), writings(sides, &text[..length], input.plan.len()).of_each(length));
     }
     table
 }

@@ -29,7 +29,7 @@ pub fn best<const N: usize>(mut entries: [Entry; N]) -> [f64; N] {
     best
 }
 
-/// Nanoseconds of the library, the independent implementation and the tuned one; no number where there is no tuned one.
+/// Nanoseconds of the library, the independent implementation and the tuned one.
 #[derive(Clone, Copy)]
 pub struct Times(pub [f64; 3]);
 
@@ -47,15 +47,6 @@ impl Times {
     /// The library's to the independent implementation's, and to the tuned one's.
     fn ratios(&self) -> [f64; 2] {
         [self.0[0] / self.0[1], self.0[0] / self.0[2]]
-    }
-}
-
-/// A number, or a dash where there is none.
-fn shown(number: f64, digits: usize) -> String {
-    if number.is_nan() {
-        "-".into()
-    } else {
-        format!("{number:.digits$}")
     }
 }
 
@@ -80,8 +71,7 @@ impl Table {
         println!("\n{:34} {:>9} {:>11} {:>9} {:>14} {:>8}", self.name, "library", "independent", "tuned", "to independent", "to tuned");
         for (input, times) in &self.rows {
             let ([ours, theirs, tuned], [to_theirs, to_tuned]) = (times.0, times.ratios());
-            let (tuned, to_tuned) = (shown(tuned, digits), shown(to_tuned, 2));
-            println!("  {input:32} {ours:9.digits$} {theirs:11.digits$} {tuned:>9} {to_theirs:14.2} {to_tuned:>8}");
+            println!("  {input:32} {ours:9.digits$} {theirs:11.digits$} {tuned:9.digits$} {to_theirs:14.2} {to_tuned:8.2}");
         }
     }
 
@@ -95,15 +85,13 @@ impl Table {
         print!("{:34}", self.name);
         for i in 0..3 {
             let (least, most) = range(&|times: &Times| times.0[i]);
-            let text = if least > most { "-".into() } else { format!("{least:.digits$} to {most:.digits$}") };
-            print!(" | {text:>17}");
+            print!(" | {:>17}", format!("{least:.digits$} to {most:.digits$}"));
         }
         for i in 0..2 {
             let (least, most) = range(&|times: &Times| times.ratios()[i]);
             let logs: f64 = self.rows.iter().map(|(_, times)| times.ratios()[i].ln()).sum();
             let mean = (logs / self.rows.len() as f64).exp();
-            let text = if least > most { "-".into() } else { format!("{least:.2} to {most:.2}, mean {mean:.2}") };
-            print!(" | {text:>22}");
+            print!(" | {:>22}", format!("{least:.2} to {most:.2}, mean {mean:.2}"));
         }
         println!();
     }

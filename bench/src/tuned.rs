@@ -12,8 +12,10 @@ mod keys;
 mod layout;
 mod plan;
 mod preview;
+mod read;
 mod run;
 mod show;
+mod tokens;
 mod witness;
 
 pub use bound::bound;
@@ -24,6 +26,7 @@ pub use interleavings::{first_interleaving, next_interleaving};
 pub use judge::judge;
 pub use plan::check;
 pub use preview::preview;
+pub use read::read;
 pub use run::play;
 pub use show::show;
 pub use witness::witness;
