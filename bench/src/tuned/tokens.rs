@@ -38,6 +38,12 @@ impl Place {
         Place(unsafe { self.0.add(count) })
     }
 
+    /// The eight bytes from there on, which must be in the text.
+    #[inline(always)]
+    unsafe fn bytes(self) -> Bytes {
+        Bytes(u64::from_le_bytes(self.0.cast::<[u8; 8]>().read()))
+    }
+
     #[inline(always)]
     fn until(self, end: Place) -> usize {
         end.0.addr().get() - self.0.addr().get()
@@ -131,12 +137,15 @@ impl Bytes {
 pub struct Text<'a> {
     bytes: &'a [u8],
     end: Place,
+    /// From addresses up to this one there are nine bytes.
+    far: usize,
 }
 
 impl<'a> Text<'a> {
     #[inline(always)]
     pub fn new(bytes: &'a [u8]) -> Text<'a> {
-        Text { bytes, end: Place(NonNull::from(bytes).cast()).on(bytes.len()) }
+        let end = Place(NonNull::from(bytes).cast()).on(bytes.len());
+        Text { bytes, end, far: end.0.addr().get().saturating_sub(9) }
     }
 
     pub fn start(&self) -> Place {
@@ -163,23 +172,31 @@ impl<'a> Text<'a> {
             return self.last_bytes(at);
         }
         // SAFETY: there are eight bytes.
-        Bytes(u64::from_le_bytes(unsafe { at.0.cast::<[u8; 8]>().read() }))
+        unsafe { at.bytes() }
     }
 
     #[cold]
     #[inline(never)]
     fn last_bytes(&self, at: Place) -> Bytes {
-        Bytes(self.bytes[self.index(at)..].iter().rev().fold(0, |bytes, byte| bytes << 8 | u64::from(*byte)))
+        let left = at.until(self.end);
+        match self.bytes.last_chunk::<8>() {
+            Some(last) => Bytes(u64::from_le_bytes(*last).checked_shr(64 - 8 * left as u32).unwrap_or(0)),
+            None => Bytes(self.bytes[self.index(at)..].iter().rev().fold(0, |bytes, byte| bytes << 8 | u64::from(*byte))),
+        }
     }
 
     /// The next token's place, and its bytes. Mostly it is there, or behind one space, which of the two is foretold by what comes before it; so the bytes
     /// are looked at again, and nothing waits for the first look.
     #[inline(always)]
     pub fn next(&self, at: Place) -> (Place, Bytes) {
-        let (mut at, mut bytes) = (at, self.bytes(at));
+        if at.0.addr().get() > self.far {
+            return self.beyond(at);
+        }
+        // SAFETY: there are nine bytes.
+        let (mut at, mut bytes) = (at, unsafe { at.bytes() });
         if bytes.first() == b' ' {
             at = at.on(1);
-            bytes = self.bytes(at);
+            bytes = unsafe { at.bytes() };
         }
         // no token begins with a byte up to this one
         if bytes.first() > b'#' {
