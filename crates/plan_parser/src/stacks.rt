@@ -12,8 +12,8 @@ ghost use Rattle.plan_parser_goals.specs.inner.Encoded.{valueOf, valueSort, sta
 ghost use Rattle.plan_parser.specs.inner.Stacks.{Stacked, Entries, Put, Looks, lastOf, operandAt};
 
 // A goal on the others; 0 is none.
-fn stack(goals: &mut [u16; 8408], top: usize, code: usize) -> usize
-    requires { ⌜ (top < 8408) × (code < 1024) × (length (now goals) ≡ 8408) ⌝ }
+fn stack(goals: &mut [u16], top: usize, code: usize) -> usize
+    requires { ⌜ (top < length (now goals)) × (length (now goals) ≤ 8408) × (code < 1024) ⌝ }
     ensures { λ r. ⌜ Stacked (stacked code) (now (goals .entry)) top (now (goals .exit)) r × (r ≤ top + 1) × (r ≤ top + code) ⌝ }
 {
     if code == 0 {
@@ -24,8 +24,8 @@ fn stack(goals: &mut [u16; 8408], top: usize, code: usize) -> usize
 }
 
 // The goals of six digits on the others.
-fn stack_digits(goals: &mut [u16; 8408], top: usize, digits: usize) -> usize
-    requires { ⌜ (top + 6 < 8408) × (length (now goals) ≡ 8408) ⌝ }
+fn stack_digits(goals: &mut [u16], top: usize, digits: usize) -> usize
+    requires { ⌜ (top + 6 < length (now goals)) × (length (now goals) ≤ 8408) ⌝ }
     ensures { λ r. ⌜ Stacked (unpacked digits) (now (goals .entry)) top (now (goals .exit)) r × (r ≤ top + 6) × (r ≤ top + 6 * digits) ⌝ }
 {
     let first = stack(&mut *goals, top, digits % 1024);
@@ -38,13 +38,13 @@ fn stack_digits(goals: &mut [u16; 8408], top: usize, digits: usize) -> usize
 
 // The goals of a move on the others.
 pub fn stack_all(
-    goals: &mut [u16; 8408],
+    goals: &mut [u16],
     top: usize,
     kept: usize,
     next: usize,
     digits: usize,
 ) -> usize
-    requires { ⌜ (top + 8 < 8408) × (kept < 1024) × (next < 1024) × (length (now goals) ≡ 8408) ⌝ }
+    requires { ⌜ (top + 8 < length (now goals)) × (length (now goals) ≤ 8408) × (kept < 1024) × (next < 1024) ⌝ }
     ensures { λ r. ⌜ Stacked (λ gs. unpacked digits (stacked next (stacked kept gs))) (now (goals .entry)) top (now (goals .exit)) r ⌝ }
     ensures { λ r. ⌜ (r ≤ top + 8) × (r ≤ top + kept + next + 6 * digits) ⌝ }
 {
@@ -54,8 +54,8 @@ pub fn stack_all(
 }
 
 // The goals of the procedure of this number.
-pub fn begin(goals: &mut [u16; 8408], number: usize) -> usize
-    requires { ⌜ (number < 32) × (length (now goals) ≡ 8408) ⌝ }
+pub fn begin(goals: &mut [u16], number: usize) -> usize
+    requires { ⌜ (number < 32) × (16 ≤ length (now goals)) × (length (now goals) ≤ 8408) ⌝ }
     ensures { λ r. ⌜ Stacked (λ gs. procedureGoals number ++ gs) (now (goals .entry)) 0 (now (goals .exit)) r × (r ≤ 7) ⌝ }
 {
     let body = stack(&mut *goals, 0, 161);
@@ -71,8 +71,8 @@ pub fn begin(goals: &mut [u16; 8408], number: usize) -> usize
 }
 
 // A value in place of so many; 0 is none.
-pub fn put(values: &mut [usize; 3108], top: usize, popped: usize, value: usize) -> usize
-    requires { ⌜ (top < 3108) × (popped ≤ 1) × (length (now values) ≡ 3108) ⌝ }
+pub fn put(values: &mut [usize], top: usize, popped: usize, value: usize) -> usize
+    requires { ⌜ (top < length (now values)) × (length (now values) ≤ 3108) × (popped ≤ 1) ⌝ }
     requires { ⌜ (1024 - value ≤ 1024 * (1 - value)) × (value < 1024 + 4294967296) ⌝ }
     ensures { λ r. ⌜ Put popped value (now (values .entry)) top (now (values .exit)) r ⌝ }
 {
@@ -102,13 +102,13 @@ fn token(tokens: &[u8], at: usize) -> usize
 }
 
 // The sort of a value.
-fn sort(words: &[usize; 1024], value: usize) -> usize
+fn sort(words: &[usize], value: usize) -> usize
     ensures { λ r. ⌜ r ≡ valueSort (valueOf (now (words .entry)) value) ⌝ }
 {
     if 1023 < value {
         return 0;
     }
-    let tag = plan_operands::tag(words[value]);
+    let tag = plan_operands::tag(plan_operands::word(words, value));
     if tag < 12 {
         return 1;
     }
@@ -122,8 +122,8 @@ fn sort(words: &[usize; 1024], value: usize) -> usize
 }
 
 // The value that was read last.
-fn last(values: &[usize; 3108], top: usize) -> usize
-    requires { ⌜ top ≤ 3108 ⌝ }
+fn last(values: &[usize], top: usize) -> usize
+    requires { ⌜ top ≤ length (now values) ⌝ }
     ensures { λ r. ⌜ r ≡ lastOf (now (values .entry)) top ⌝ }
 {
     if top == 0 {
@@ -146,11 +146,11 @@ fn number(value: usize) -> usize
 pub fn look(
     tokens: &[u8],
     at: usize,
-    words: &[usize; 1024],
-    values: &[usize; 3108],
+    words: &[usize],
+    values: &[usize],
     top: usize,
 ) -> Sight
-    requires { ⌜ (top ≤ 3108) × (at ≤ 16384) × Entries 0 (now values) top ⌝ }
+    requires { ⌜ (top ≤ length (now values)) × (at ≤ 16384) × Entries 0 (now values) top ⌝ }
     ensures { λ r. ⌜ Looks (now (tokens .entry)) at (now (words .entry)) (now (values .entry)) top r ⌝ }
 {
     let value = last(values, top);
@@ -164,8 +164,8 @@ pub fn look(
 }
 
 // The number of an operand that is so far down, from 1; 0 is none.
-pub fn operand(values: &[usize; 3108], top: usize, back: usize) -> usize
-    requires { ⌜ (back ≤ top) × (top ≤ 3108) ⌝ }
+pub fn operand(values: &[usize], top: usize, back: usize) -> usize
+    requires { ⌜ (back ≤ top) × (top ≤ length (now values)) ⌝ }
     ensures { λ r. ⌜ r ≡ operandAt (now (values .entry)) top back ⌝ }
 {
     if back == 0 {

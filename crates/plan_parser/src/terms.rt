@@ -50,8 +50,8 @@ fn less(first: usize, second: usize) -> usize
 
 // A term of a tag in place of its operands, with the next number below the terms that are there; how many values there are then.
 pub fn make(
-    values: &mut [usize; 3108],
-    words: &mut [usize; 1024],
+    values: &mut [usize],
+    words: &mut [usize],
     top: usize,
     left: usize,
     tag: usize,

@@ -30,8 +30,8 @@ fn half(code: u16) -> usize
 
 // The goal on top gives way to those of a move.
 fn go_on(
-    goals: &mut [u16; 8408],
-    values: &mut [usize; 3108],
+    goals: &mut [u16],
+    values: &mut [usize],
     standing: Standing,
     taken: usize,
     kept: usize,
@@ -55,8 +55,8 @@ fn go_on(
 
 // The goal on top gives way to the term that it makes.
 fn make_on(
-    values: &mut [usize; 3108],
-    words: &mut [usize; 1024],
+    values: &mut [usize],
+    words: &mut [usize],
     standing: Standing,
     tag: usize,
 ) -> Standing
@@ -82,12 +82,12 @@ fn make_on(
 fn found(
     tokens: &[u8],
     counts: &[u8],
-    goals: &[u16; 8408],
-    values: &[usize; 3108],
-    words: &[usize; 1024],
+    goals: &[u16],
+    values: &[usize],
+    words: &[usize],
     standing: Standing,
 ) -> Move
-    requires { ⌜ State (now tokens) (now goals) (now values) (now words) standing × Going standing ⌝ }
+    requires { ⌜ State (now tokens) (now goals) (now values) (now words) standing × Going (now goals) (now values) (now words) standing ⌝ }
     ensures { λ r. ⌜ Found (now (tokens .entry)) (now (counts .entry)) (now (goals .entry)) (now (values .entry)) (now (words .entry)) standing r ⌝ }
 {
     let top = standing.goals - 1;
@@ -103,12 +103,12 @@ const NO_TERMS: usize = 1000;
 pub fn take(
     tokens: &[u8],
     counts: &[u8],
-    goals: &mut [u16; 8408],
-    values: &mut [usize; 3108],
-    words: &mut [usize; 1024],
+    goals: &mut [u16],
+    values: &mut [usize],
+    words: &mut [usize],
     standing: Standing,
 ) -> Turn
-    requires { ⌜ State (now tokens) (now goals) (now values) (now words) standing × Going standing ⌝ }
+    requires { ⌜ State (now tokens) (now goals) (now values) (now words) standing × Going (now goals) (now values) (now words) standing ⌝ }
     ensures { λ r. ⌜ Turned (now (tokens .entry)) (now (counts .entry)) (now (goals .entry)) (now (values .entry)) (now (words .entry))
         (now (goals .exit)) (now (values .exit)) (now (words .exit)) standing r ⌝ }
 {

@@ -30,7 +30,7 @@ number-requires c κs = search needs
 
 returns : tie.Need-returns
 returns c = looks _ _ _ _ _ _ _ _ _ _ (c .before .before .before .before .before .last .ensures)
-    (c .before .before .before .before .before .before .before .pre .2) (c .before .before .before .before .token .ensures)
+    (c .before .before .before .before .before .before .before .before .before .pre .2) (c .before .before .before .before .token .ensures)
     (c .before .before .before .token2 .ensures) (c .before .before .token3 .ensures) (c .before .sort .ensures) _ (c .number .ensures)
 
 pub look-spec : {M : Type 1} → statement M

@@ -13,15 +13,15 @@ sub-top c = search needs
 mul-half : tie.Need-mul-half
 mul-half c = search needs
 
-element-copy-out-half : tie.Need-element-copy-out-half
-element-copy-out-half c = search needs
+shared-slice-read-half : tie.Need-shared-slice-read-half
+shared-slice-read-half c = search needs
 
 half-requires : tie.Need-half-requires
 half-requires c κs = search needs
 
 look-requires : tie.Need-look-requires
 look-requires c κs =
-    let s = c .before .before .before .before .before in
+    let s = c .before .before .before .before .before .before .before .before in
     let p = s .pre .0 in
     let v = p .values-few in
     let i = p .inside in
@@ -30,12 +30,12 @@ look-requires c κs =
 
 step-requires : tie.Need-step-requires
 step-requires c κs =
-    let s = c .before .before .before .before .before .before in
+    let s = c .before .before .before .before .before .before .before .before .before in
     (subst Sound (sym (c .before .half .ensures .0)) (sound _ (s .args .counts .now) _ _ _ _ (s .pre .0) (s .pre .1)), c .look .ensures .small)
 
 returns : tie.Need-returns
 returns c =
-    let g = c .before .before .before .before .before .shared-slice-known2 .given in
+    let g = c .before .before .before .before .before .before .before .before .shared-slice-known2 .given in
     record {
       sight = c .before .look .result;
       looks = c .before .look .ensures;
@@ -49,7 +49,7 @@ found-spec =
     (tie.spec
     sub-top
     mul-half
-    element-copy-out-half
+    shared-slice-read-half
     half-requires
     look-requires
     step-requires
