@@ -4,7 +4,6 @@ pub mod rows; // rows.rt: the operands of each tag
 pub mod tags; // tags.rt: the tags by name
 
 ghost use mathlib.Core.Path.{_≡_};
-ghost use lib.ListN.{getD};
 ghost use Rattle.plan_packed.specs.inner.Operands.{tagOf, firstOf, secondOf, thirdOf, slotBits, fieldBits, writeSecond, letFirst, letSecond, procedureBits};
 ghost use Rattle.plan_packed.specs.inner.Operands.{listBits, maskBits};
 
@@ -110,14 +109,4 @@ pub fn mask_of(word: usize) -> usize
     ensures { λ r. ⌜ r ≡ maskBits word ⌝ }
 {
     word / MASK % 4294967296
-}
-
-// The word of a term; behind the last there is none, and null's stands for it.
-pub fn word(words: &[usize], term: usize) -> usize
-    ensures { λ r. ⌜ r ≡ getD (now (words .entry)) term 0 ⌝ }
-{
-    if term < words.len() {
-        return words[term];
-    }
-    0
 }

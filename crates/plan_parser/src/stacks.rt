@@ -108,7 +108,7 @@ fn sort(words: &[usize], value: usize) -> usize
     if 1023 < value {
         return 0;
     }
-    let tag = plan_operands::tag(plan_operands::word(words, value));
+    let tag = plan_operands::tag(plan_words::word(words, value));
     if tag < 12 {
         return 1;
     }
