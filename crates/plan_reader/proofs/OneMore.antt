@@ -230,7 +230,7 @@ starts ts v m words roots counts at e o a b c i =
       roots-long = b;
       counts-long = c;
       there = λ q h. absurd (omega arith);
-      sized = refl;
+      sized = omega arith;
       inside = i;
       few = omega arith;
     }

@@ -4,10 +4,10 @@ use native.Mathlib.Decide.{decLe}
 use native.Mathlib.Omega.{arith}
 use mathlib.Core.Path.{_≡_, refl, sym, ap, ap₂, subst, _∙_}
 use mathlib.Core.Logic.{_⊎_, inl, inr}
-use mathlib.Core.Bool.{Bool, true, false, cond}
+use mathlib.Core.Bool.{Bool, true, false, cond, true≢false}
 use mathlib.Core.List.{List, [], _∷_, _++_}
 use lib.Dec.{ltb}
-use lib.ListN.{length, getD, take, drop, replicate, length-append, length-drop, length-map, drop-of-length-le}
+use lib.ListN.{length, getD, take, drop, replicate, length-replicate, length-append, length-drop, length-map, drop-of-length-le}
 use lib.Seq.{take-append-seam}
 use borrow.Author.Tests.{lt-ltb, le-ltb, ne-eqb}
 use Rattle.format.specs.Area.{overwrite}
@@ -31,11 +31,13 @@ use Rattle.plan_parsing.proofs.PlanRight.{program-right}
 use Rattle.plan_writer.specs.inner.Held.{heldFrom, heldProgram, Writable}
 use Rattle.plan_reader.specs.inner.Reading.{faultOf, Faulty, PlanHeld, ReadBy, ReadAs}
 use Rattle.plan_reader.specs.declared.Outcome.{Outcome}
-use Rattle.plan_reader.specs.declared.Outcome.the-variants.{Plan, Refused}
+use Rattle.plan_reader.specs.declared.Outcome.the-variants.{Plan, Refused, Full}
 use Rattle.read.specs.Read as texts
 use Rattle.read.specs.Read.{Failure, ofFault, tooMany, shortForPlan, failedAt, answerBy, areaBy, readAnswer, readArea}
 use Rattle.read.specs.Answer.{failureOf, knownKind, answered}
-use Rattle.read.specs.inner.Begun.{Held, TooShort, Wrote, PlanWritten}
+use Rattle.read.specs.inner.Begun.{Held, TooShort, Wrote, PlanWritten, Lent, TokensRead, Tried, answerOf, isCrowded}
+use Rattle.read.specs.declared.Attempt.{Attempt}
+use Rattle.read.specs.declared.Attempt.the-variants.{Answer, Crowded}
 use Rattle.read.specs.declared.ReadAnswer.{ReadAnswer}
 use Rattle.read.specs.declared.ReadAnswer.the-variants.{Written, Short, Failed}
 
@@ -47,26 +49,27 @@ held-length words roots counts p zero = refl
 held-length words roots counts p (suc n) = ap suc (held-length words roots counts (suc p) n)
 
 module _ {v m n left : ℕ} {words roots counts : List ℕ} (h : Held v m n left words roots counts) where
-  pub left-few : left ≤ 1024
+  pub left-few : left ≤ length words
   left-few = omega (arith, h .sized)
 
-  pub plan-length : length (bytes.written (heldProgram v m n words roots counts)) ≡ 8 + 2 * n + 5 * (1024 - left)
+  pub plan-length : length (bytes.written (heldProgram v m n words roots counts)) ≡ 8 + 2 * n + 5 * (length words - left)
   unfolding heldProgram
   plan-length =
       whole-length (heldProgram v m n words roots counts)
-      ∙ by (length (heldFrom words roots counts 0 n)) (sizeOfAll (heldFrom words roots counts 0 n)) n left (held-length words roots counts 0 n) (h .sized)
+      ∙ by (length (heldFrom words roots counts 0 n)) (sizeOfAll (heldFrom words roots counts 0 n)) n left (length words) (held-length words roots counts 0 n)
+      (h .sized)
     where
-      by : (a b n l : ℕ) → a ≡ n → b + l ≡ 1024 → 8 + 2 * a + 5 * b ≡ 8 + 2 * n + 5 * (1024 - l)
-      by a b n l e f = omega arith
+      by : (a b n l w : ℕ) → a ≡ n → b + l ≡ w → 8 + 2 * a + 5 * b ≡ 8 + 2 * n + 5 * (w - l)
+      by a b n l w e f = omega arith
 
-  pub writable : {area : List ℕ} → 8 + 2 * n + 5 * (1024 - left) ≤ length area → Writable v m n (1024 - left) words roots counts area
+  pub writable : {area : List ℕ} → 8 + 2 * n + 5 * (length words - left) ≤ length area → Writable v m n (length words - left) words roots counts area
   writable k =
       record {
         ordered = h .ordered;
         version-known = h .version-known;
         mask-fits = h .mask-fits;
         few-procedures = h .few-procedures;
-        few-terms = omega arith;
+        few-terms = omega (arith, h .few-words);
         root-inside = λ p l. h .there p l .1;
         few-parameters = λ p l. h .there p l .2;
         sized = omega (arith, h .sized);
@@ -79,12 +82,38 @@ null-node : (w : ℕ) → w ≡ 0 → nodeOf (termIn w) ≡ Node.expression Expr
 unfolding nodeOf termIn inWord layout table nodes
 null-node w e = rw e refl
 
-null-in : (t : ℕ) → nodeIn (replicate 1024 0) t ≡ Node.expression ExpressionNode.null
+null-in : (n t : ℕ) → nodeIn (replicate n 0) t ≡ Node.expression ExpressionNode.null
 unfolding nodeIn
-null-in t = null-node (getD (replicate 1024 0) t 0) (zeros 1024 t)
+null-in n t = null-node (getD (replicate n 0) t 0) (zeros n t)
 
-pub zeros-ordered : Ordered (replicate 1024 0)
-zeros-ordered = record { past = λ t h. null-in t; below = λ t. subst (NamesLater t) (sym (null-in t)) tt }
+zeros-ordered : (n : ℕ) → Ordered (replicate n 0)
+zeros-ordered n = record { past = λ t h. null-in n t; below = λ t. subst (NamesLater t) (sym (null-in n t)) tt }
+
+-- arrays of these sizes
+pub lent : (t c w g v : ℕ) → t ≤ 16384 → t < c → w ≤ 1024 → 16 ≤ g → g ≤ 8408 → 16 ≤ v → v ≤ 3108
+    → (w ≡ 1024 → (g ≡ 8408) × (v ≡ 3108) × (t ≡ 16384))
+    → Lent (replicate t 0) (replicate c 0) (replicate w 0) (replicate g 0) (replicate v 0)
+lent t c w g v ht hc hw lg hg lv hv e =
+    let a = length-replicate {A = ℕ} t 0 in
+    let b = length-replicate {A = ℕ} c 0 in
+    let d = length-replicate {A = ℕ} w 0 in
+    let x = length-replicate {A = ℕ} g 0 in
+    let y = length-replicate {A = ℕ} v 0 in
+    record {
+      ordered = zeros-ordered w;
+      sized =
+          record {
+            some-goals = rw x lg;
+            most-goals = rw x hg;
+            some-values = rw y lv;
+            most-values = rw y hv;
+            most-words = rw d hw;
+            whole = λ q. let z = e (sym d ∙ q) in (x ∙ z .0, y ∙ z .1);
+          };
+      few-tokens = rw a ht;
+      more-counts = rw (a, b) hc;
+      whole = λ q. a ∙ e (sym d ∙ q) .2;
+    }
 
 -- every text has a token, its end
 from-some : (cs : List ℕ) (b : Begun) (i : ℕ) → 0 < length (tokensFrom b i cs)
@@ -174,9 +203,9 @@ unfolding heldProgram
 small-mask v m n words roots counts h = h
 
 pub plan-in-arrays : (text : List ℕ) {ts words roots counts : List ℕ} {v m n left : ℕ} {r : Outcome} → ts ≡ codesOf text → ReadAs ts words roots counts r
-    → r ≡ Plan v m n left
+    → r ≡ Plan v m n left → length words ≤ 1024
     → Held v m n left words roots counts
-plan-in-arrays text {ts} {words} {roots} {counts} {v} {m} {n} {left} e x f =
+plan-in-arrays text {ts} {words} {roots} {counts} {v} {m} {n} {left} e x f b =
     let h = subst (ReadBy ts words roots counts) f (x .so) in
     let says : readPlan (codesOf text) ≡ plan (heldProgram v m n words roots counts) = subst
     (λ (us : List ℕ). readPlan us ≡ plan (heldProgram v m n words roots counts)) e (h .0 .says) in
@@ -187,7 +216,13 @@ plan-in-arrays text {ts} {words} {roots} {counts} {v} {m} {n} {left} e x f =
       few-procedures = h .0 .few;
       there = h .0 .there;
       sized = h .0 .sized;
+      few-words = b;
     }
+
+-- ---- arrays that are too short
+
+pub full-short : {ts words roots counts : List ℕ} {r : Outcome} → ReadAs ts words roots counts r → r ≡ Full → length words < 1024
+full-short {ts} {words} {roots} {counts} x f = subst (ReadBy ts words roots counts) f (x .so)
 
 by-plan : (text area : List ℕ) (g : Program) → readPlan (codesOf text) ≡ plan g → (area′ : List ℕ) (a : ReadAnswer) → PlanWritten g area area′ a
     → (answered a ≡ answerBy text area (readPlan (codesOf text))) × (area′ ≡ areaBy area (readPlan (codesOf text)))
@@ -208,45 +243,6 @@ plan-answer text area {ts} {words} {roots} {counts} {area′} {v} {m} {n} {left}
     by-plan text area (heldProgram v m n words roots counts)
     (subst (λ (us : List ℕ). readPlan us ≡ plan (heldProgram v m n words roots counts)) e (h .0 .says)) area′ a w
 
--- ---- too many tokens, or not
-
-module _ (text area : List ℕ) {tokens after : List ℕ} {r : ℕ} (k : Kept tokens (codesOf text) after r) (n : length tokens ≡ 16384) where
-  pub many-answer : (a : ReadAnswer) → 16384 < r → answered a ≡ failedAt text 16384 (failureOf 4 0) → (answered a ≡ readAnswer text area)
-      × (area ≡ readArea text area)
-  unfolding readAnswer readArea tooMany failureOf
-  many-answer a h e = let s = lt-ltb 16384 (length (codesOf text)) many in (e ∙ sym (rw s refl), sym (rw s refl))
-    where
-      many : 16384 < length (codesOf text)
-      many = go (decLe (length (codesOf text)) 16384)
-        where
-          go : Dec (length (codesOf text) ≤ 16384) → 16384 < length (codesOf text)
-          go (yes l) = absurd (omega (arith, h, l, k .fits (omega (arith, l, n)) .0))
-          go (no l) = omega (arith, l)
-
-  few : r ≤ 16384 → length (codesOf text) ≤ 16384
-  few h = go (decLe (length (codesOf text)) 16384)
-    where
-      go : Dec (length (codesOf text) ≤ 16384) → length (codesOf text) ≤ 16384
-      go (yes l) = l
-      go (no l) = absurd (omega (arith, h, n, k .full (omega (arith, l, n))))
-
-  pub first-codes : r ≤ 16384 → (take (r - 0) after ≡ codesOf text) × (length (take (r - 0) after) ≤ 16384)
-  unfolding overwrite
-  first-codes h =
-      let f = k .fits (omega (arith, few h, n)) in
-      let e : take (r - 0) after ≡ codesOf text = ap₂ (λ (i : ℕ) (l : List ℕ). take i l) (whole r ∙ f .0) (f .1)
-      ∙ take-append-seam (codesOf text) (drop (length (codesOf text)) tokens) in
-      (e, omega (arith, ap length e, few h))
-    where
-      whole : (n : ℕ) → n - 0 ≡ n
-      whole n = omega arith
-
-  pub few-answer : (a : ReadAnswer) {area′ : List ℕ} → r ≤ 16384 → answered a ≡ answerBy text area (readPlan (codesOf text))
-      → area′ ≡ areaBy area (readPlan (codesOf text))
-      → (answered a ≡ readAnswer text area) × (area′ ≡ readArea text area)
-  unfolding readAnswer readArea tooMany
-  few-answer a h e f = let s = le-ltb 16384 (length (codesOf text)) (few h) in (e ∙ sym (rw s refl), f ∙ sym (rw s refl))
-
 -- ---- lengths
 
 pub written-length : {g : Program} {area area′ : List ℕ} {a : ReadAnswer} → PlanWritten g area area′ a → length area′ ≡ length area
@@ -262,3 +258,69 @@ area-length area (plan g) = go (decLe (length (bytes.written g)) (length area))
         → length (cond (ltb (length area) (length (bytes.written g))) area (overwrite (bytes.written g) area)) ≡ length area
     go (yes h) = rw (le-ltb (length area) (length (bytes.written g)) h) (overwrite-length (bytes.written g) area h)
     go (no h) = rw (lt-ltb (length area) (length (bytes.written g)) (omega (arith, h)))
+
+read-length : (text area : List ℕ) → length (readArea text area) ≡ length area
+unfolding readArea tooMany
+read-length text area = go (ltb 16384 (length (codesOf text)))
+  where
+    go : (b : Bool) → length (cond b area (areaBy area (readPlan (codesOf text)))) ≡ length area
+    go true = refl
+    go false = area-length area (readPlan (codesOf text))
+
+-- ---- too many tokens, or not
+
+module _ (text area : List ℕ) {tokens after : List ℕ} {r : ℕ} (k : Kept tokens (codesOf text) after r) (n : length tokens ≤ 16384) where
+  many : length tokens < r → length tokens < length (codesOf text)
+  many h = go (decLe (length (codesOf text)) (length tokens))
+    where
+      go : Dec (length (codesOf text) ≤ length tokens) → length tokens < length (codesOf text)
+      go (yes l) = absurd (omega (arith, h, l, k .fits l .0))
+      go (no l) = omega (arith, l)
+
+  pub many-answer : (a : ReadAnswer) → length tokens ≡ 16384 → length tokens < r → answered a ≡ failedAt text 16384 (failureOf 4 0)
+      → (answered a ≡ readAnswer text area) × (area ≡ readArea text area)
+  unfolding readAnswer readArea tooMany failureOf
+  many-answer a w h e = let s = lt-ltb 16384 (length (codesOf text)) (omega (arith, many h, w)) in (e ∙ sym (rw s refl), sym (rw s refl))
+
+  few : r ≤ length tokens → length (codesOf text) ≤ length tokens
+  few h = go (decLe (length (codesOf text)) (length tokens))
+    where
+      go : Dec (length (codesOf text) ≤ length tokens) → length (codesOf text) ≤ length tokens
+      go (yes l) = l
+      go (no l) = absurd (omega (arith, h, k .full (omega (arith, l))))
+
+  pub first-codes : r ≤ length tokens → (take (r - 0) after ≡ codesOf text) × (length (take (r - 0) after) ≤ length tokens)
+  unfolding overwrite
+  first-codes h =
+      let f = k .fits (few h) in
+      let e : take (r - 0) after ≡ codesOf text = ap₂ (λ (i : ℕ) (l : List ℕ). take i l) (whole r ∙ f .0) (f .1)
+      ∙ take-append-seam (codesOf text) (drop (length (codesOf text)) tokens) in
+      (e, omega (arith, ap length e, few h))
+    where
+      whole : (n : ℕ) → n - 0 ≡ n
+      whole n = omega arith
+
+  pub few-tried : (w : ℕ) (x : Attempt) {area′ : List ℕ} → r ≤ length tokens → TokensRead text w area area′ x → Tried text w area area′ x
+  unfolding readAnswer readArea tooMany
+  few-tried w (Answer a) h e =
+      let s = le-ltb 16384 (length (codesOf text)) (omega (arith, few h)) in (e .0 ∙ sym (rw s refl), e .1 ∙ sym (rw s refl))
+  few-tried w Crowded h e = e
+
+-- ---- an attempt that was not too short
+
+pub tried-answer : {text area area′ : List ℕ} (w : ℕ) (x : Attempt) {a : ReadAnswer} → Tried text w area area′ x → isCrowded x ≡ false ⊎ (1024 ≤ w)
+    → a ≡ answerOf x → (answered a ≡ readAnswer text area) × (area′ ≡ readArea text area)
+unfolding answerOf isCrowded
+tried-answer w (Answer a) t c e = rw e t
+tried-answer w Crowded t (inl c) e = absurd (true≢false c)
+tried-answer w Crowded t (inr c) e = absurd (omega (arith, t .0))
+
+-- and one that was leaves the area as it was
+pub crowded-area : {text area area′ : List ℕ} (w : ℕ) (x : Attempt) → Tried text w area area′ x → isCrowded x ≡ true → area′ ≡ area
+unfolding isCrowded
+crowded-area w (Answer a) t c = absurd (true≢false (sym c))
+crowded-area w Crowded t c = t .1
+
+pub tried-length : {text area area′ : List ℕ} (w : ℕ) (x : Attempt) → Tried text w area area′ x → length area′ ≡ length area
+tried-length {text} {area} w (Answer a) t = ap length (t .1) ∙ read-length text area
+tried-length w Crowded t = ap length (t .1)
