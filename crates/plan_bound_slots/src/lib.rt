@@ -60,13 +60,7 @@ fn closed_leaf(word: usize, bound: usize) -> bool
 }
 
 // Two operands, of which one is seen here and the other is left: the second is seen here if it has no children, else the first.
-fn rest_of_two(
-    words: &[usize],
-    first: usize,
-    bound: usize,
-    second: usize,
-    inner: usize,
-) -> Rest
+fn rest_of_two(words: &[usize], first: usize, bound: usize, second: usize, inner: usize) -> Rest
     requires { ⌜ Ordered (now words) ⌝ }
     requires { ⌜ (first < 1024) × (second < 1024) ⌝ }
     ensures { λ r. ⌜ seen (now (words .entry)) r ≡

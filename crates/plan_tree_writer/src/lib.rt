@@ -150,13 +150,7 @@ fn begin_condition(
 }
 
 // An argument of a call, or the end of its list.
-fn begin_list(
-    words: &[usize],
-    term: usize,
-    area: &mut [u8],
-    base: usize,
-    number: usize,
-) -> Left
+fn begin_list(words: &[usize], term: usize, area: &mut [u8], base: usize, number: usize) -> Left
     requires { ⌜ Ordered (now words) × (term < 1024) ⌝ }
     requires { ⌜ Room (listsIn (now words) term) base number (now area) ⌝ }
     ensures { λ r. ⌜ Going (listsIn (now (words .entry))) base term number (now (area .entry)) (now (area .exit)) r ⌝ }
@@ -226,13 +220,7 @@ fn write_condition(
 }
 
 // The arguments of a call, as an expression.
-fn write_list(
-    words: &[usize],
-    from: usize,
-    area: &mut [u8],
-    base: usize,
-    first: usize,
-) -> usize
+fn write_list(words: &[usize], from: usize, area: &mut [u8], base: usize, first: usize) -> usize
     requires { ⌜ Ordered (now words) × (from < 1024) ⌝ }
     requires { ⌜ Room (listsIn (now words) from) base first (now area) ⌝ }
     ensures { λ r. ⌜ Wrote (listsIn (now (words .entry)) from) base first (now (area .entry)) (now (area .exit)) r ⌝ }

@@ -1,4 +1,5 @@
-// The words of terms, 40 bits each, in a slice of any length: whoever holds few terms needs no more than a short array.
+// The words of terms, 40 bits each, in a slice of any length: whoever holds few terms needs no more than a short array. Functions that call each other for the
+// children of a term lend such a slice anew with each call (`&*words`): handed on as it came, it would be read from memory at every term.
 ghost use mathlib.Core.Path.{_≡_};
 ghost use lib.ListN.{getD};
 

@@ -28,18 +28,18 @@ returns : tie.Need-returns
 returns c = inl (record { short = rw (plan-length (c .before .before .pre)) (c .if1 .taken); kept = refl; answer = refl })
 
 write-requires : tie.Need-write-requires
-write-requires c κs = writable (c .before .before .before .pre) (c .before .if1 .left)
+write-requires c κs = writable (c .before .before .before .before .pre) (c .before .before .if1 .left)
 
 same-length : tie.Need-same-length
 same-length c =
-    let p = c .before .before .before .before .before .before .pre in
-    ap length (c .before .before .write .ensures) ∙ overwrite-length _ _ (rw (plan-length p) (c .before .before .before .before .if1 .left))
+    let p = c .before .before .before .before .before .before .before .pre in
+    ap length (c .before .before .write .ensures) ∙ overwrite-length _ _ (rw (plan-length p) (c .before .before .before .before .before .if1 .left))
 
 returns-2 : tie.Need-returns-2
 returns-2 c =
-    let p = c .before .before .before .before .before .before .pre in
+    let p = c .before .before .before .before .before .before .before .pre in
     inr (record {
-      long = rw (plan-length p) (c .before .before .before .before .if1 .left);
+      long = rw (plan-length p) (c .before .before .before .before .before .if1 .left);
       bytes = c .before .before .write .ensures;
       answer = ap Written (sym (plan-length p));
     })
