@@ -148,5 +148,12 @@ pub fn procedure(
         values: 1,
         left: left,
     };
-    run(tokens, counts, &mut *goals, &mut *values, &mut *words, start)
+    run(
+        tokens,
+        counts,
+        &mut *goals,
+        &mut *values,
+        &mut *words,
+        start,
+    )
 }

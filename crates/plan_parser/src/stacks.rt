@@ -37,13 +37,7 @@ fn stack_digits(goals: &mut [u16], top: usize, digits: usize) -> usize
 }
 
 // The goals of a move on the others.
-pub fn stack_all(
-    goals: &mut [u16],
-    top: usize,
-    kept: usize,
-    next: usize,
-    digits: usize,
-) -> usize
+pub fn stack_all(goals: &mut [u16], top: usize, kept: usize, next: usize, digits: usize) -> usize
     requires { ⌜ (top + 8 < length (now goals)) × (length (now goals) ≤ 8408) × (kept < 1024) × (next < 1024) ⌝ }
     ensures { λ r. ⌜ Stacked (λ gs. unpacked digits (stacked next (stacked kept gs))) (now (goals .entry)) top (now (goals .exit)) r ⌝ }
     ensures { λ r. ⌜ (r ≤ top + 8) × (r ≤ top + kept + next + 6 * digits) ⌝ }
@@ -143,13 +137,7 @@ fn number(value: usize) -> usize
 }
 
 // What a step sees.
-pub fn look(
-    tokens: &[u8],
-    at: usize,
-    words: &[usize],
-    values: &[usize],
-    top: usize,
-) -> Sight
+pub fn look(tokens: &[u8], at: usize, words: &[usize], values: &[usize], top: usize) -> Sight
     requires { ⌜ (top ≤ length (now values)) × (at ≤ 16384) × Entries 0 (now values) top ⌝ }
     ensures { λ r. ⌜ Looks (now (tokens .entry)) at (now (words .entry)) (now (values .entry)) top r ⌝ }
 {

@@ -49,13 +49,7 @@ fn less(first: usize, second: usize) -> usize
 }
 
 // A term of a tag in place of its operands, with the next number below the terms that are there; how many values there are then.
-pub fn make(
-    values: &mut [usize],
-    words: &mut [usize],
-    top: usize,
-    left: usize,
-    tag: usize,
-) -> usize
+pub fn make(values: &mut [usize], words: &mut [usize], top: usize, left: usize, tag: usize) -> usize
     requires { ⌜ Makeable (now words) (now values) top left tag ⌝ }
     ensures { λ r. ⌜ Makes (now (words .entry)) (now (values .entry)) top left tag (now (words .exit)) (now (values .exit)) r ⌝ }
 {

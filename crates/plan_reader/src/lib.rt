@@ -221,16 +221,7 @@ fn step(
     requires { ⌜ Going (now tokens) version mask (now words) (now roots) (now parameters) procedure at left ⌝ }
     ensures { λ r. ⌜ Goes (now (tokens .entry)) version mask (now (words .exit)) (now (roots .exit)) (now (parameters .exit)) procedure r ⌝ }
 {
-    let parsed = plan_parser::procedure(
-        tokens,
-        at,
-        procedure,
-        counts,
-        words,
-        left,
-        goals,
-        values,
-    );
+    let parsed = plan_parser::procedure(tokens, at, procedure, counts, words, left, goals, values);
     match parsed {
         Parsed::Stopped { reason, at: stop } => Next::Stop {
             kind: READING,

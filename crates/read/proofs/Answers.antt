@@ -259,7 +259,7 @@ area-length area (plan g) = go (decLe (length (bytes.written g)) (length area))
     go (yes h) = rw (le-ltb (length area) (length (bytes.written g)) h) (overwrite-length (bytes.written g) area h)
     go (no h) = rw (lt-ltb (length area) (length (bytes.written g)) (omega (arith, h)))
 
-read-length : (text area : List ℕ) → length (readArea text area) ≡ length area
+pub read-length : (text area : List ℕ) → length (readArea text area) ≡ length area
 unfolding readArea tooMany
 read-length text area = go (ltb 16384 (length (codesOf text)))
   where
@@ -300,27 +300,27 @@ module _ (text area : List ℕ) {tokens after : List ℕ} {r : ℕ} (k : Kept to
       whole : (n : ℕ) → n - 0 ≡ n
       whole n = omega arith
 
-  pub few-tried : (w : ℕ) (x : Attempt) {area′ : List ℕ} → r ≤ length tokens → TokensRead text w area area′ x → Tried text w area area′ x
+  pub few-tried : (w : ℕ) (x : Attempt) (area′ : List ℕ) → r ≤ length tokens → TokensRead text w area area′ x → Tried text w area area′ x
   unfolding readAnswer readArea tooMany
-  few-tried w (Answer a) h e =
+  few-tried w (Answer a) area′ h e =
       let s = le-ltb 16384 (length (codesOf text)) (omega (arith, few h)) in (e .0 ∙ sym (rw s refl), e .1 ∙ sym (rw s refl))
-  few-tried w Crowded h e = e
+  few-tried w Crowded area′ h e = e
 
 -- ---- an attempt that was not too short
 
-pub tried-answer : {text area area′ : List ℕ} (w : ℕ) (x : Attempt) {a : ReadAnswer} → Tried text w area area′ x → isCrowded x ≡ false ⊎ (1024 ≤ w)
+pub tried-answer : (text area area′ : List ℕ) (w : ℕ) (x : Attempt) {a : ReadAnswer} → Tried text w area area′ x → isCrowded x ≡ false ⊎ (1024 ≤ w)
     → a ≡ answerOf x → (answered a ≡ readAnswer text area) × (area′ ≡ readArea text area)
 unfolding answerOf isCrowded
-tried-answer w (Answer a) t c e = rw e t
-tried-answer w Crowded t (inl c) e = absurd (true≢false c)
-tried-answer w Crowded t (inr c) e = absurd (omega (arith, t .0))
+tried-answer text area area′ w (Answer a) t c e = rw e t
+tried-answer text area area′ w Crowded t (inl c) e = absurd (true≢false c)
+tried-answer text area area′ w Crowded t (inr c) e = absurd (omega (arith, t .0))
 
 -- and one that was leaves the area as it was
-pub crowded-area : {text area area′ : List ℕ} (w : ℕ) (x : Attempt) → Tried text w area area′ x → isCrowded x ≡ true → area′ ≡ area
+pub crowded-area : (text area area′ : List ℕ) (w : ℕ) (x : Attempt) → Tried text w area area′ x → isCrowded x ≡ true → area′ ≡ area
 unfolding isCrowded
-crowded-area w (Answer a) t c = absurd (true≢false (sym c))
-crowded-area w Crowded t c = t .1
+crowded-area text area area′ w (Answer a) t c = absurd (true≢false (sym c))
+crowded-area text area area′ w Crowded t c = t .1
 
-pub tried-length : {text area area′ : List ℕ} (w : ℕ) (x : Attempt) → Tried text w area area′ x → length area′ ≡ length area
-tried-length {text} {area} w (Answer a) t = ap length (t .1) ∙ read-length text area
-tried-length w Crowded t = ap length (t .1)
+pub tried-length : (text area area′ : List ℕ) (w : ℕ) (x : Attempt) → Tried text w area area′ x → length area′ ≡ length area
+tried-length text area area′ w (Answer a) t = ap length (t .1) ∙ read-length text area
+tried-length text area area′ w Crowded t = ap length (t .1)

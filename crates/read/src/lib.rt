@@ -121,7 +121,12 @@ fn read_tokens(
         values,
     );
     match outcome {
-        Outcome::Refused { kind, reason, at } => Attempt::Answer(failed(text, at, known(kind), reason)),
+        Outcome::Refused { kind, reason, at } => Attempt::Answer(failed(
+            text,
+            at,
+            known(kind),
+            reason,
+        )),
         Outcome::Plan {
             version,
             mask,
@@ -142,7 +147,7 @@ fn read_tokens(
 }
 
 // A text, by arrays that are lent.
-fn attempt(
+fn read_into(
     text: &[u8],
     tokens: &mut [u8],
     counts: &mut [u8],
@@ -161,15 +166,7 @@ fn attempt(
         }
         return Attempt::Answer(failed(text, MOST, TOKENS, 0));
     }
-    read_tokens(
-        text,
-        &tokens[0..count],
-        counts,
-        words,
-        goals,
-        values,
-        area,
-    )
+    read_tokens(text, &tokens[0..count], counts, words, goals, values, area)
 }
 
 // By arrays for most texts of up to 191 bytes, since filling longer ones takes longer than reading them.
@@ -181,7 +178,7 @@ fn in_few(text: &[u8], area: &mut [u8]) -> Attempt
     let mut words = [0usize; 64];
     let mut goals = [0u16; 96];
     let mut values = [0usize; 48];
-    attempt(
+    read_into(
         text,
         &mut tokens,
         &mut counts,
@@ -201,7 +198,7 @@ fn in_many(text: &[u8], area: &mut [u8]) -> Attempt
     let mut words = [0usize; 384];
     let mut goals = [0u16; 512];
     let mut values = [0usize; 192];
-    attempt(
+    read_into(
         text,
         &mut tokens,
         &mut counts,
@@ -221,7 +218,7 @@ fn in_all(text: &[u8], area: &mut [u8]) -> Attempt
     let mut words = [0usize; TERMS];
     let mut goals = [0u16; 8408];
     let mut values = [0usize; 3108];
-    attempt(
+    read_into(
         text,
         &mut tokens,
         &mut counts,
@@ -233,8 +230,7 @@ fn in_all(text: &[u8], area: &mut [u8]) -> Attempt
 }
 
 // The smallest arrays that are likely to do for a text.
-fn likely(text: &[u8]) -> usize
-{
+fn likely(text: &[u8]) -> usize {
     if text.len() < 192 {
         return 0;
     }
