@@ -7,7 +7,7 @@ use mathlib.Core.Logic.{_⊎_, inl, inr}
 use mathlib.Core.Bool.{Bool, true, false, cond, true≢false}
 use mathlib.Core.List.{List, [], _∷_, _++_}
 use lib.Dec.{ltb}
-use lib.ListN.{length, getD, take, drop, replicate, length-replicate, length-append, length-drop, length-map, drop-of-length-le}
+use lib.ListN.{length, getD, set, take, drop, replicate, length-replicate, length-append, length-drop, length-map, drop-of-length-le}
 use lib.Seq.{take-append-seam}
 use borrow.Author.Tests.{lt-ltb, le-ltb, ne-eqb}
 use Rattle.format.specs.Area.{overwrite}
@@ -35,11 +35,9 @@ use Rattle.plan_reader.specs.declared.Outcome.the-variants.{Plan, Refused, Full
 use Rattle.read.specs.Read as texts
 use Rattle.read.specs.Read.{Failure, ofFault, tooMany, shortForPlan, failedAt, answerBy, areaBy, readAnswer, readArea}
 use Rattle.read.specs.Answer.{failureOf, knownKind, answered}
-use Rattle.read.specs.inner.Begun.{Held, TooShort, Wrote, PlanWritten, Lent, TokensRead, Tried, answerOf, isCrowded}
-use Rattle.read.specs.declared.Attempt.{Attempt}
-use Rattle.read.specs.declared.Attempt.the-variants.{Answer, Crowded}
+use Rattle.read.specs.inner.Begun.{Held, toldAnswer, PlanTold, OfText, Lent, TokensPlan, TokensFault, TokensTold, Tried}
 use Rattle.read.specs.declared.ReadAnswer.{ReadAnswer}
-use Rattle.read.specs.declared.ReadAnswer.the-variants.{Written, Short, Failed}
+use Rattle.read.specs.declared.ReadAnswer.the-variants.{Failed}
 
 -- ---- a plan in arrays
 
@@ -183,17 +181,15 @@ by-fault : (text area : List ℕ) (f : Fault) (rest : List ℕ) → readPlan (co
 unfolding answerBy areaBy
 by-fault text area f rest e = (sym (ap (answerBy text area) e), sym (ap (areaBy area) e))
 
-pub fault-answer : (text area : List ℕ) {ts words roots counts : List ℕ} {kind reason at k : ℕ} {r : Outcome} (a : ReadAnswer) → ts ≡ codesOf text
-    → ReadAs ts words roots counts r
-    → r ≡ Refused kind reason at → k ≡ knownKind kind → answered a ≡ failedAt text at (failureOf k reason)
-    → (answered a ≡ answerBy text area (readPlan (codesOf text))) × (area ≡ areaBy area (readPlan (codesOf text)))
-fault-answer text area {ts} {words} {roots} {counts} {kind} {reason} {at} {k} {r} a e x f q z =
-    let says : readPlan (codesOf text) ≡ fault (faultOf kind reason) (drop at (codesOf text)) = subst
-    (λ (us : List ℕ). readPlan us ≡ fault (faultOf kind reason) (drop at us)) e (subst (ReadBy ts words roots counts) f (x .so)) in
-    let b = by-fault text area (faultOf kind reason) (drop at (codesOf text)) says in (
-      z ∙ ap (failedAt text at) (ap (λ (j : ℕ). failureOf j reason) q ∙ known-fault kind reason) ∙ failed-same text at (ofFault (faultOf kind reason))
-          ∙ b .0,
-      b .1,
+pub fault-told : (text area area′ told : List ℕ) {ts : List ℕ} → ts ≡ codesOf text → TokensFault ts area area′ told
+    → (toldAnswer text told ≡ answerBy text area (readPlan (codesOf text))) × (area′ ≡ areaBy area (readPlan (codesOf text)))
+unfolding toldAnswer
+fault-told text area area′ told {ts} e x =
+    let f = faultOf (x .kind) (x .reason) in
+    let says : readPlan (codesOf text) ≡ fault f (drop (x .at) (codesOf text)) = subst (λ (us : List ℕ). readPlan us ≡ fault f (drop (x .at) us)) e (x .says) in
+    let b = by-fault text area f (drop (x .at) (codesOf text)) says in (
+      ap (toldAnswer text) (x .told-is) ∙ ap (failedAt text (x .at)) (known-fault (x .kind) (x .reason)) ∙ failed-same text (x .at) (ofFault f) ∙ b .0,
+      x .kept ∙ b .1,
     )
 
 -- ---- a plan
@@ -202,13 +198,14 @@ small-mask : (v m n : ℕ) (words roots counts : List ℕ) → heldProgram v m n
 unfolding heldProgram
 small-mask v m n words roots counts h = h
 
-pub plan-in-arrays : (text : List ℕ) {ts words roots counts : List ℕ} {v m n left : ℕ} {r : Outcome} → ts ≡ codesOf text → ReadAs ts words roots counts r
+pub plan-in-arrays : {ts words roots counts : List ℕ} {v m n left : ℕ} {r : Outcome} → OfText ts → ReadAs ts words roots counts r
     → r ≡ Plan v m n left → length words ≤ 1024
     → Held v m n left words roots counts
-plan-in-arrays text {ts} {words} {roots} {counts} {v} {m} {n} {left} e x f b =
+plan-in-arrays {ts} {words} {roots} {counts} {v} {m} {n} {left} o x f b =
+    let text = o .text in
     let h = subst (ReadBy ts words roots counts) f (x .so) in
     let says : readPlan (codesOf text) ≡ plan (heldProgram v m n words roots counts) = subst
-    (λ (us : List ℕ). readPlan us ≡ plan (heldProgram v m n words roots counts)) e (h .0 .says) in
+    (λ (us : List ℕ). readPlan us ≡ plan (heldProgram v m n words roots counts)) (o .codes-are) (h .0 .says) in
     record {
       ordered = h .0 .ordered;
       version-known = h .1;
@@ -224,28 +221,43 @@ plan-in-arrays text {ts} {words} {roots} {counts} {v} {m} {n} {left} e x f b =
 pub full-short : {ts words roots counts : List ℕ} {r : Outcome} → ReadAs ts words roots counts r → r ≡ Full → length words < 1024
 full-short {ts} {words} {roots} {counts} x f = subst (ReadBy ts words roots counts) f (x .so)
 
-by-plan : (text area : List ℕ) (g : Program) → readPlan (codesOf text) ≡ plan g → (area′ : List ℕ) (a : ReadAnswer) → PlanWritten g area area′ a
-    → (answered a ≡ answerBy text area (readPlan (codesOf text))) × (area′ ≡ areaBy area (readPlan (codesOf text)))
-unfolding answerBy areaBy shortForPlan
-by-plan text area g e area′ a (inl w) =
+by-plan : (text area : List ℕ) (g : Program) → readPlan (codesOf text) ≡ plan g → (area′ told : List ℕ) → PlanTold g area area′ told
+    → (toldAnswer text told ≡ answerBy text area (readPlan (codesOf text))) × (area′ ≡ areaBy area (readPlan (codesOf text)))
+unfolding answerBy areaBy shortForPlan toldAnswer
+by-plan text area g e area′ told (inl w) =
     let s = lt-ltb (length area) (length (bytes.written g)) (w .short) in
-    (ap answered (w .answer) ∙ sym (ap (answerBy text area) e ∙ rw s refl), w .kept ∙ sym (ap (areaBy area) e ∙ rw s refl))
-by-plan text area g e area′ a (inr w) =
+    (ap (toldAnswer text) (w .told-is) ∙ sym (ap (answerBy text area) e ∙ rw s refl), w .kept ∙ sym (ap (areaBy area) e ∙ rw s refl))
+by-plan text area g e area′ told (inr w) =
     let s = le-ltb (length area) (length (bytes.written g)) (w .long) in
-    (ap answered (w .answer) ∙ sym (ap (answerBy text area) e ∙ rw s refl), w .bytes ∙ sym (ap (areaBy area) e ∙ rw s refl))
+    (ap (toldAnswer text) (w .told-is) ∙ sym (ap (answerBy text area) e ∙ rw s refl), w .bytes ∙ sym (ap (areaBy area) e ∙ rw s refl))
 
-pub plan-answer : (text area : List ℕ) {ts words roots counts area′ : List ℕ} {v m n left : ℕ} {r : Outcome} {a : ReadAnswer} → ts ≡ codesOf text
-    → ReadAs ts words roots counts r
-    → r ≡ Plan v m n left → PlanWritten (heldProgram v m n words roots counts) area area′ a
-    → (answered a ≡ answerBy text area (readPlan (codesOf text))) × (area′ ≡ areaBy area (readPlan (codesOf text)))
-plan-answer text area {ts} {words} {roots} {counts} {area′} {v} {m} {n} {left} {r} {a} e x f w =
+pub plan-told : (text area area′ told : List ℕ) {ts : List ℕ} → ts ≡ codesOf text → TokensPlan ts area area′ told
+    → (toldAnswer text told ≡ answerBy text area (readPlan (codesOf text))) × (area′ ≡ areaBy area (readPlan (codesOf text)))
+plan-told text area area′ told e x =
+    by-plan text area (x .program) (subst (λ (us : List ℕ). readPlan us ≡ plan (x .program)) e (x .says)) area′ told (x .plan-told)
+
+-- what the reader says of tokens
+pub plan-tokens : {ts words roots counts area area′ told : List ℕ} {v m n left : ℕ} {r : Outcome} → ReadAs ts words roots counts r → r ≡ Plan v m n left
+    → PlanTold (heldProgram v m n words roots counts) area area′ told → TokensPlan ts area area′ told
+plan-tokens {ts} {words} {roots} {counts} {v = v} {m} {n} x f w =
     let h = subst (ReadBy ts words roots counts) f (x .so) in
-    by-plan text area (heldProgram v m n words roots counts)
-    (subst (λ (us : List ℕ). readPlan us ≡ plan (heldProgram v m n words roots counts)) e (h .0 .says)) area′ a w
+    record { program = heldProgram v m n words roots counts; says = h .0 .says; plan-told = w }
+
+pub fault-tokens : {ts words roots counts area told : List ℕ} {kind reason at k : ℕ} {r : Outcome} → ReadAs ts words roots counts r → r ≡ Refused kind reason at
+    → k ≡ knownKind kind → told ≡ 2 ∷ at ∷ k ∷ reason ∷ [] → TokensFault ts area area told
+fault-tokens {ts} {words} {roots} {counts} {kind = kind} {reason} {at} x f q z =
+    record {
+      kind = kind;
+      reason = reason;
+      at = at;
+      says = subst (ReadBy ts words roots counts) f (x .so);
+      told-is = z ∙ ap (λ (j : ℕ). 2 ∷ at ∷ j ∷ reason ∷ []) q;
+      kept = refl;
+    }
 
 -- ---- lengths
 
-pub written-length : {g : Program} {area area′ : List ℕ} {a : ReadAnswer} → PlanWritten g area area′ a → length area′ ≡ length area
+pub written-length : {g : Program} {area area′ told : List ℕ} → PlanTold g area area′ told → length area′ ≡ length area
 written-length (inl w) = ap length (w .kept)
 written-length {g} {area} (inr w) = ap length (w .bytes) ∙ overwrite-length (bytes.written g) area (w .long)
 
@@ -277,10 +289,11 @@ module _ (text area : List ℕ) {tokens after : List ℕ} {r : ℕ} (k : Kept to
       go (yes l) = absurd (omega (arith, h, l, k .fits l .0))
       go (no l) = omega (arith, l)
 
-  pub many-answer : (a : ReadAnswer) → length tokens ≡ 16384 → length tokens < r → answered a ≡ failedAt text 16384 (failureOf 4 0)
-      → (answered a ≡ readAnswer text area) × (area ≡ readArea text area)
-  unfolding readAnswer readArea tooMany failureOf
-  many-answer a w h e = let s = lt-ltb 16384 (length (codesOf text)) (omega (arith, many h, w)) in (e ∙ sym (rw s refl), sym (rw s refl))
+  pub many-told : (told : List ℕ) → length tokens ≡ 16384 → length tokens < r → told ≡ 2 ∷ 16384 ∷ 4 ∷ 0 ∷ []
+      → (toldAnswer text told ≡ readAnswer text area) × (area ≡ readArea text area)
+  unfolding readAnswer readArea tooMany failureOf toldAnswer
+  many-told told w h e =
+      let s = lt-ltb 16384 (length (codesOf text)) (omega (arith, many h, w)) in (ap (toldAnswer text) e ∙ sym (rw s refl), sym (rw s refl))
 
   few : r ≤ length tokens → length (codesOf text) ≤ length tokens
   few h = go (decLe (length (codesOf text)) (length tokens))
@@ -300,27 +313,46 @@ module _ (text area : List ℕ) {tokens after : List ℕ} {r : ℕ} (k : Kept to
       whole : (n : ℕ) → n - 0 ≡ n
       whole n = omega arith
 
-  pub few-tried : (w : ℕ) (x : Attempt) (area′ : List ℕ) → r ≤ length tokens → TokensRead text w area area′ x → Tried text w area area′ x
+  whole-answer : (told area′ : List ℕ) → r ≤ length tokens
+      → (toldAnswer text told ≡ answerBy text area (readPlan (codesOf text))) × (area′ ≡ areaBy area (readPlan (codesOf text)))
+      → (toldAnswer text told ≡ readAnswer text area) × (area′ ≡ readArea text area)
   unfolding readAnswer readArea tooMany
-  few-tried w (Answer a) area′ h e =
-      let s = le-ltb 16384 (length (codesOf text)) (omega (arith, few h)) in (e .0 ∙ sym (rw s refl), e .1 ∙ sym (rw s refl))
-  few-tried w Crowded area′ h e = e
+  whole-answer told area′ h e = let s = le-ltb 16384 (length (codesOf text)) (omega (arith, few h)) in (e .0 ∙ sym (rw s refl), e .1 ∙ sym (rw s refl))
 
--- ---- an attempt that was not too short
+  pub few-tried : (w : ℕ) (x : Bool) (area′ told ts : List ℕ) → r ≤ length tokens → ts ≡ codesOf text → TokensTold ts w area area′ told x
+      → Tried text w area area′ told x
+  few-tried w true area′ told ts h e (inl t) = whole-answer told area′ h (plan-told text area area′ told e t)
+  few-tried w true area′ told ts h e (inr t) = whole-answer told area′ h (fault-told text area area′ told e t)
+  few-tried w false area′ told ts h e t = t
 
-pub tried-answer : (text area area′ : List ℕ) (w : ℕ) (x : Attempt) {a : ReadAnswer} → Tried text w area area′ x → isCrowded x ≡ false ⊎ (1024 ≤ w)
-    → a ≡ answerOf x → (answered a ≡ readAnswer text area) × (area′ ≡ readArea text area)
-unfolding answerOf isCrowded
-tried-answer text area area′ w (Answer a) t c e = rw e t
-tried-answer text area area′ w Crowded t (inl c) e = absurd (true≢false c)
-tried-answer text area area′ w Crowded t (inr c) e = absurd (omega (arith, t .0))
+-- ---- an attempt with an answer, or without one
 
--- and one that was leaves the area as it was
-pub crowded-area : (text area area′ : List ℕ) (w : ℕ) (x : Attempt) → Tried text w area area′ x → isCrowded x ≡ true → area′ ≡ area
-unfolding isCrowded
-crowded-area text area area′ w (Answer a) t c = absurd (true≢false (sym c))
-crowded-area text area area′ w Crowded t c = t .1
+pub tried-answer : (text area area′ told : List ℕ) (w : ℕ) (x : Bool) → Tried text w area area′ told x → x ≡ true ⊎ (1024 ≤ w)
+    → (toldAnswer text told ≡ readAnswer text area) × (area′ ≡ readArea text area)
+tried-answer text area area′ told w true t c = t
+tried-answer text area area′ told w false t (inl c) = absurd (true≢false (sym c))
+tried-answer text area area′ told w false t (inr c) = absurd (omega (arith, t .0))
 
-pub tried-length : (text area area′ : List ℕ) (w : ℕ) (x : Attempt) → Tried text w area area′ x → length area′ ≡ length area
-tried-length text area area′ w (Answer a) t = ap length (t .1) ∙ read-length text area
-tried-length text area area′ w Crowded t = ap length (t .1)
+-- one without leaves the area as it was
+pub crowded-area : (text area area′ told : List ℕ) (w : ℕ) (x : Bool) → Tried text w area area′ told x → x ≡ false → area′ ≡ area
+crowded-area text area area′ told w true t c = absurd (true≢false c)
+crowded-area text area area′ told w false t c = t .1
+
+-- and still lends four numbers
+pub crowded-told : (text area area′ told : List ℕ) (w : ℕ) (x : Bool) → Tried text w area area′ told x → x ≡ false → length told ≡ 4
+crowded-told text area area′ told w true t c = absurd (true≢false c)
+crowded-told text area area′ told w false t c = t .2
+
+pub tried-length : (text area area′ told : List ℕ) (w : ℕ) (x : Bool) → Tried text w area area′ told x → length area′ ≡ length area
+tried-length text area area′ told w true t = ap length (t .1) ∙ read-length text area
+tried-length text area area′ told w false t = ap length (t .1)
+
+-- ---- four numbers
+
+pub four-set : (l : List ℕ) (a b c d : ℕ) → length l ≡ 4 → set (set (set (set l 0 a) 1 b) 2 c) 3 d ≡ a ∷ b ∷ c ∷ d ∷ []
+four-set [] a b c d h = absurd (omega arith)
+four-set (x ∷ []) a b c d h = absurd (omega arith)
+four-set (x ∷ y ∷ []) a b c d h = absurd (omega arith)
+four-set (x ∷ y ∷ z ∷ []) a b c d h = absurd (omega arith)
+four-set (x ∷ y ∷ z ∷ w ∷ []) a b c d h = refl
+four-set (x ∷ y ∷ z ∷ w ∷ v ∷ l) a b c d h = absurd (omega arith)

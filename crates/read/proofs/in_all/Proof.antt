@@ -22,11 +22,13 @@ slice-aggregate-read-into-5 : tie.Need-slice-aggregate-read-into-5
 slice-aggregate-read-into-5 c = search needs
 
 read-into-requires : tie.Need-read-into-requires
-read-into-requires c κs = lent 16384 16385 1024 8408 3108 (omega arith) (omega arith) (omega arith) (omega arith) (omega arith) (omega arith) (omega arith)
-    (λ e. (refl, refl, refl))
+read-into-requires c κs = (
+  lent 16384 16385 1024 8408 3108 (omega arith) (omega arith) (omega arith) (omega arith) (omega arith) (omega arith) (omega arith) (λ e. (refl, refl, refl)),
+  c .before .before .before .before .before .before .before .before .before .pre,
+)
 
 same-length : tie.Need-same-length
-same-length c = tried-length _ _ _ 1024 (c .before .before .before .before .before .before .before .read-into .result) (c .before .before .before .before .before .before .before .read-into .ensures)
+same-length c = tried-length _ _ _ _ 1024 (c .before .before .before .before .before .before .before .read-into .result) (c .before .before .before .before .before .before .before .read-into .ensures)
 
 returns : tie.Need-returns
 returns c = c .before .before .before .before .before .before .before .read-into .ensures

@@ -1,9 +1,8 @@
 -- `read_into` meets its contract. Assumes nothing.
 use native.Mathlib.Omega.{arith}
-use mathlib.Core.Path.{refl, ap, _∙_}
+use mathlib.Core.Path.{refl}
 use mathlib.Core.List.{[]}
-use lib.ListN.{length}
-use Rattle.read.proofs.Answers.{many-answer, first-codes, few-tried, tried-length}
+use Rattle.read.proofs.Answers.{many-told, first-codes, few-tried}
 use borrow.Author.Needs.{needs}
 use Rattle.read.proofs.read_into.Statement.{statement}
 use Rattle.read.proofs.read_into.Tie as tie
@@ -15,20 +14,19 @@ same-length : tie.Need-same-length
 same-length c = c .before .before .before .before .lex .ensures .same
 
 returns : tie.Need-returns
-returns c = (c .if2 .taken, refl)
+returns c = (c .if2 .taken, refl, c .before .before .before .before .before .before .before .before .before .before .before .before .before .pre .1)
 
-failed-requires : tie.Need-failed-requires
-failed-requires c κs = search needs
+tell-requires : tie.Need-tell-requires
+tell-requires c κs = c .before .before .before .before .before .before .before .before .before .before .before .before .before .before .pre .1
 
 same-length-2 : tie.Need-same-length-2
-same-length-2 c = c .before .before .before .before .before .lex .ensures .same
+same-length-2 c = c .before .before .before .before .before .before .lex .ensures .same
 
 returns-2 : tie.Need-returns-2
 returns-2 c =
-    let l = c .before .before .before .before .before .before .before .before .before .before .before .before .before .before .pre in
+    let l = c .before .before .before .before .before .before .before .before .before .before .before .before .before .before .before .pre .0 in
     let m = l .sized .most-words in
-    many-answer _ _ (c .before .before .before .before .before .lex .ensures) (l .few-tokens) (c .failed .result) (l .whole (omega (arith, c .before .if2 .left))) (omega (arith, c .before .before .before .before .before .lex .ensures .same, c .before .before .if1 .taken))
-    (c .failed .ensures)
+    many-told _ _ (c .before .before .before .before .before .before .lex .ensures) (l .few-tokens) _ (l .whole (omega (arith, c .before .before .if2 .left))) (omega (arith, c .before .before .before .before .before .before .lex .ensures .same, c .before .before .before .if1 .taken)) (c .tell .ensures)
 
 sub-read-tokens : tie.Need-sub-read-tokens
 sub-read-tokens c = search needs
@@ -41,9 +39,9 @@ part-read-tokens-end c = search (needs, c .before .if1 .left)
 
 read-tokens-requires : tie.Need-read-tokens-requires
 read-tokens-requires c κs =
-    let l = c .before .before .before .before .before .before .before .before .before .before .before .before .before .before .before .before .before .before .before .pre in
-    let f = first-codes _ [] (c .before .before .before .before .before .before .before .before .before .before .lex .ensures) (l .few-tokens) (omega (arith, c .before .before .before .before .before .before .before .before .before .before .lex .ensures .same, c .before .before .before .before .before .before .before .if1 .left)) in
-    ((f .0, omega (arith, f .1, l .few-tokens), omega (arith, f .1, l .more-counts)), (l .ordered, l .sized))
+    let l = c .before .before .before .before .before .before .before .before .before .before .before .before .before .before .before .before .before .before .before .before .pre .0 in
+    let f = first-codes _ [] (c .before .before .before .before .before .before .before .before .before .before .before .lex .ensures) (l .few-tokens) (omega (arith, c .before .before .before .before .before .before .before .before .before .before .before .lex .ensures .same, c .before .before .before .before .before .before .before .before .if1 .left)) in
+    ((record { text = _; codes-are = f .0 }, omega (arith, f .1, l .few-tokens), omega (arith, f .1, l .more-counts)), (l .ordered, l .sized, c .before .before .before .before .before .before .before .before .before .before .before .before .before .before .before .before .before .before .before .before .pre .1))
 
 same-length-3 : tie.Need-same-length-3
 same-length-3 c = search needs
@@ -65,8 +63,9 @@ same-length-8 c = search needs
 
 returns-3 : tie.Need-returns-3
 returns-3 c =
-    few-tried _ _ (c .before .before .before .before .before .before .before .before .before .before .before .before .before .before .before .before .before .before .before .before .before .lex .ensures) (c .before .before .before .before .before .before .before .before .before .before .before .before .before .before .before .before .before .before .before .before .before .before .before .before .before .before .before .before .before .before .pre .few-tokens) _ (c .before .before .before .before .before .before .before .before .before .before .read-tokens .result) _ (omega (arith, c .before .before .before .before .before .before .before .before .before .before .before .before .before .before .before .before .before .before .before .before .before .lex .ensures .same, c .before .before .before .before .before .before .before .before .before .before .before .before .before .before .before .before .before .before .if1 .left))
-    (c .before .before .before .before .before .before .before .before .before .before .read-tokens .ensures)
+    let l = c .before .before .before .before .before .before .before .before .before .before .before .before .before .before .before .before .before .before .before .before .before .before .before .before .before .before .before .before .before .before .before .pre .0 in
+    few-tried _ _ (c .before .before .before .before .before .before .before .before .before .before .before .before .before .before .before .before .before .before .before .before .before .before .lex .ensures) (l .few-tokens) _ (c .before .before .before .before .before .before .before .before .before .before .read-tokens .result) _ _ _ (omega (arith, c .before .before .before .before .before .before .before .before .before .before .before .before .before .before .before .before .before .before .before .before .before .before .lex .ensures .same, c .before .before .before .before .before .before .before .before .before .before .before .before .before .before .before .before .before .before .before .if1 .left))
+    (first-codes _ [] (c .before .before .before .before .before .before .before .before .before .before .before .before .before .before .before .before .before .before .before .before .before .before .lex .ensures) (l .few-tokens) (omega (arith, c .before .before .before .before .before .before .before .before .before .before .before .before .before .before .before .before .before .before .before .before .before .before .lex .ensures .same, c .before .before .before .before .before .before .before .before .before .before .before .before .before .before .before .before .before .before .before .if1 .left)) .0) (c .before .before .before .before .before .before .before .before .before .before .read-tokens .ensures)
 
 pub read-into-spec : {M : Type 1} → statement M
 read-into-spec =
@@ -75,7 +74,7 @@ read-into-spec =
     lex-requires
     same-length
     returns
-    failed-requires
+    tell-requires
     same-length-2
     returns-2
     sub-read-tokens
