@@ -62,7 +62,8 @@ write-expression-requires c κs =
 
 add-procedure : tie.Need-add-procedure Inv-loop μ-loop
 add-procedure c =
-    let s = c .before .before .before .before .before .before .before .before .before .before .before .before .before .before .before .before .before .before in
+    let s = c .before .before .before .before .before .before .before .before .before .before .before .before .before .before .before .before
+    .before .before in
     let q = s .pre .few-procedures in
     omega arith
 
@@ -71,7 +72,8 @@ loop-less c = omega arith
 
 loop-again : tie.Need-loop-again Inv-loop μ-loop
 loop-again c =
-    let w = c .before .before .before .before .before .before .before .before .before .before .before .before .before .before .before .before .before .before .pre in
+    let w = c .before .before .before .before .before .before .before .before .before .before .before .before .before .before .before .before
+    .before .before .pre in
     let l = c .before .before .before .before .before .before .before .before .before .before .before .loop in
     let t = c .before .before .before .before .before .before .before .before .before .before .loop-test .taken in
     next w (l .inv) t (c .before .before .before .before .before .before .put-procedure .ensures) (c .before .before .write-expression .ensures)

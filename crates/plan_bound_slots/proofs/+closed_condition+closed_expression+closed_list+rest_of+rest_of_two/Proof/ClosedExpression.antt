@@ -28,7 +28,10 @@ module _ (span : ℕ) where
   loop-holds c = (omega arith, c .before .pre .1 .1, refl)
 
   rest-of-requires : lts.Need-rest-of-requires callees (closed-expression-at span) Post Inv μ
-  rest-of-requires c κs = let s = c .before .before in let l = c .loop in (here span (s .args .from) (l .term) (s .pre .0) (l .inv .0), (s .pre .1 .0, l .inv .1))
+  rest-of-requires c κs = let s = c .before .before in let l = c .loop in (
+    here span (s .args .from) (l .term) (s .pre .0) (l .inv .0),
+    (s .pre .1 .0, l .inv .1),
+  )
 
   enum-told : lts.Need-enum-told callees (closed-expression-at span) Post Inv μ
   enum-told c = search needs

@@ -252,12 +252,14 @@ module _ (span : ℕ) where
   returns-14 : lts.Need-returns-14 callees (rest-of-at span) Post
   returns-14 c =
       let k = c .before in
-      rw (k .before .before .first .ensures, word-is k) (notify-left _ (k .before .before .before .before .before .pre .1 .0) _ _ (tagged k (c .match .keys12)))
+      rw (k .before .before .first .ensures, word-is k)
+      (notify-left _ (k .before .before .before .before .before .pre .1 .0) _ _ (tagged k (c .match .keys12)))
 
   returns-15 : lts.Need-returns-15 callees (rest-of-at span) Post
   returns-15 c =
       let k = c .before in
-      rw (k .before .before .first .ensures, word-is k) (notify-all-left _ (k .before .before .before .before .before .pre .1 .0) _ _ (tagged k (c .match .keys13)))
+      rw (k .before .before .first .ensures, word-is k)
+      (notify-all-left _ (k .before .before .before .before .before .pre .1 .0) _ _ (tagged k (c .match .keys13)))
 
   returns-16 : lts.Need-returns-16 callees (rest-of-at span) Post
   returns-16 c =

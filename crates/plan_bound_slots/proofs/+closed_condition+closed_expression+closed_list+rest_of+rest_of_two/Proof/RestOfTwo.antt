@@ -45,10 +45,12 @@ module _ (span : ℕ) where
   returns : lts.Need-returns callees (rest-of-two-at span) Post
   returns c =
       let s = c .before .before .before .before .before .before in
-      leaf-closed _ (s .pre .1 .0) _ _ _ _ (leaf (c .before .before)) (rw (c .before .before .before .before .word .ensures) at (c .before .closed-leaf .ensures)) (s .pre .1 .1 .0) (c .if2 .taken)
+      leaf-closed _ (s .pre .1 .0) _ _ _ _ (leaf (c .before .before))
+      (rw (c .before .before .before .before .word .ensures) at (c .before .closed-leaf .ensures)) (s .pre .1 .1 .0) (c .if2 .taken)
 
   returns-2 : lts.Need-returns-2 callees (rest-of-two-at span) Post
-  returns-2 c = leaf-open _ (c .before .before .before .before .before .before .pre .1 .0) _ _ _ _ (leaf (c .before .before)) (rw (c .before .before .before .before .word .ensures) at (c .before .closed-leaf .ensures))
+  returns-2 c = leaf-open _ (c .before .before .before .before .before .before .pre .1 .0) _ _ _ _ (leaf (c .before .before))
+      (rw (c .before .before .before .before .word .ensures) at (c .before .closed-leaf .ensures))
       (c .if2 .left)
 
   closed-expression-requires : lts.Need-closed-expression-requires callees (rest-of-two-at span) Post
@@ -60,7 +62,8 @@ module _ (span : ℕ) where
       first-closed _ (s .pre .1 .0) _ _ _ _ (s .pre .1 .1 .1) (sym (c .before .closed-expression .ensures) ∙ c .if3 .taken)
 
   returns-4 : lts.Need-returns-4 callees (rest-of-two-at span) Post
-  returns-4 c = first-open _ (c .before .before .before .before .before .before .pre .1 .0) _ _ _ _ (sym (c .before .closed-expression .ensures) ∙ c .if3 .left)
+  returns-4 c = first-open _ (c .before .before .before .before .before .before .pre .1 .0) _ _ _ _ (sym (c .before .closed-expression .ensures)
+      ∙ c .if3 .left)
 
   pub rest-of-two : {M : Type 1} → lts.Closed callees (rest-of-two-at span) Post M
   rest-of-two =

@@ -181,7 +181,8 @@ module _ (span : ℕ) where
       let v = c .before .before .before .before .before .before .before .before .before .before .before .before .before in
       let s = v .before .before .before in
       let w = v .word .ensures in
-      let a = and-at _ (s .pre .1 .0 .0) _ (rw (w) at (sym (c .before .before .before .before .before .before .before .before .before .before .before .tag .ensures)
+      let a = and-at _ (s .pre .1 .0 .0) _
+      (rw (w) at (sym (c .before .before .before .before .before .before .before .before .before .before .before .tag .ensures)
       ∙ c .before .before .before .before .before .before .before .before .before .before .match .keys2)) in
       let f = rw (c .before .before .before .before .before .before .before .before .before .before .before .before .first .ensures, w) at
       (c .before .before .before .before .before .before .before .before .write-condition .ensures) in
@@ -202,7 +203,11 @@ module _ (span : ℕ) where
       let a = equal-at _ (s .pre .1 .0 .0) _
       (rw (w) at (sym (c .before .before .before .before .before .before .before .before .before .before .before .before .before .before .before .tag .ensures)
       ∙ c .before .before .before .before .before .before .before .before .before .before .before .before .before .before .match .keys3)) in
-      let f = rw (c .before .before .before .before .before .before .before .before .before .before .before .before .before .before .before .before .first .ensures, w) at
+      let f = rw (
+        c .before .before .before .before .before .before .before .before .before .before .before .before .before .before .before
+            .before .first .ensures,
+        w,
+      ) at
       (c .before .before .before .before .before .before .before .before .before .before .before .before .write-expression .ensures) in
       let g = rw (c .before .before .before .before .second2 .ensures, w) at (c .before .before .write-expression2 .ensures) in
       two-done _ _ _ _ _ (add-one _) _ _ f _ (a .two-shape)

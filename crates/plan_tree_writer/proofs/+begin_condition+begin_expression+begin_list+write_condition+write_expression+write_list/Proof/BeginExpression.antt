@@ -162,7 +162,8 @@ module _ (span : ℕ) where
 
   put-requires-2 : lts.Need-put-requires-2 callees (begin-expression-at span) Post
   put-requires-2 c κs = let k = tree-keeps (c .before .before .before .before .write-expression .ensures) in let r =
-      put-room (c .before .before .before .before .before .before .before .before .before .before .before .before .before .before .before .pre .1 .1) in omega arith
+      put-room (c .before .before .before .before .before .before .before .before .before .before .before .before .before .before
+      .before .pre .1 .1) in omega arith
 
   pair-second-requires : lts.Need-pair-second-requires callees (begin-expression-at span) Post
   pair-second-requires c κs = tt
@@ -177,7 +178,8 @@ module _ (span : ℕ) where
       let s = v .before .before .before in
       let w = v .word .ensures in
       let a = two-at _ (s .pre .1 .0 .0) _
-      (found pairs _ _ (rw (w) at (c .before .before .before .before .before .before .before .before .before .before .before .before .before .before .before .tag .ensures)) (c .before .before .before .before .before .before .before .before .before .before .before .before .has-two .ensures)
+      (found pairs _ _ (rw (w) at (c .before .before .before .before .before .before .before .before .before .before .before .before .before
+      .before .before .tag .ensures)) (c .before .before .before .before .before .before .before .before .before .before .before .before .has-two .ensures)
       (c .before .before .before .before .before .before .before .before .before .before .before .if2 .taken)) in
       let f = rw (c .before .before .before .before .before .before .before .before .before .before .pair-first .ensures, w) at
       (c .before .before .before .before .before .before .before .before .write-expression .ensures) in
@@ -193,7 +195,8 @@ module _ (span : ℕ) where
       let v = c .before .before .before .before .before .before .before .before in
       let s = v .before .before .before in
       let w = v .word .ensures in
-      let a = if-at _ (s .pre .1 .0 .0) _ (rw (w) at (sym (c .before .before .before .before .before .before .before .tag .ensures) ∙ c .before .before .match .keys1)) in
+      let a = if-at _ (s .pre .1 .0 .0) _ (rw (w) at (sym (c .before .before .before .before .before .before .before .tag .ensures)
+      ∙ c .before .before .match .keys1)) in
       rw (c .before .first2 .ensures, w) (
         later _ _ _ (s .pre .0) (a .laters .0) (a .insides .0),
         ((s .pre .1 .0 .0, a .insides .0), three-first (s .pre .1 .1) (a .three-shape)),
@@ -222,7 +225,8 @@ module _ (span : ℕ) where
       let s = v .before .before .before in
       let w = v .word .ensures in
       let a = if-at _ (s .pre .1 .0 .0) _
-      (rw (w) at (sym (c .before .before .before .before .before .before .before .before .before .before .before .before .before .before .before .before .tag .ensures) ∙ c .before .before .before .before .before .before .before .before .before .before .before .match .keys1)) in
+      (rw (w) at (sym (c .before .before .before .before .before .before .before .before .before .before .before .before .before .before
+      .before .before .tag .ensures) ∙ c .before .before .before .before .before .before .before .before .before .before .before .match .keys1)) in
       let f = rw (c .before .before .before .before .before .before .before .before .before .before .first2 .ensures, w) at
       (c .before .before .before .before .before .before .before .before .write-condition .ensures) in
       let g = rw (c .before .before .before .before .before .second .ensures, w) at (c .before .before .before .write-expression2 .ensures) in
@@ -231,7 +235,8 @@ module _ (span : ℕ) where
   put-requires-3 : lts.Need-put-requires-3 callees (begin-expression-at span) Post
   put-requires-3 c κs = let k = tree-keeps (c .before .before .before .before .before .before .before .before .before .write-condition .ensures) in let i =
       tree-keeps (c .before .before .before .before .write-expression2 .ensures) in let r =
-      put-room (c .before .before .before .before .before .before .before .before .before .before .before .before .before .before .before .before .before .before .before .before .before .pre .1 .1) in omega arith
+      put-room (c .before .before .before .before .before .before .before .before .before .before .before .before .before .before .before
+      .before .before .before .before .before .before .pre .1 .1) in omega arith
 
   third-requires : lts.Need-third-requires callees (begin-expression-at span) Post
   third-requires c κs = tt
@@ -264,7 +269,8 @@ module _ (span : ℕ) where
 
   put-requires-4 : lts.Need-put-requires-4 callees (begin-expression-at span) Post
   put-requires-4 c κs = let k = tree-keeps (c .before .before .before .before .write-condition2 .ensures) in let r =
-      put-room (c .before .before .before .before .before .before .before .before .before .before .before .before .before .before .before .before .pre .1 .1) in
+      put-room (c .before .before .before .before .before .before .before .before .before .before .before .before .before .before .before
+      .before .pre .1 .1) in
       omega arith
 
   second-requires-2 : lts.Need-second-requires-2 callees (begin-expression-at span) Post
@@ -310,14 +316,20 @@ module _ (span : ℕ) where
 
   returns-3 : lts.Need-returns-3 callees (begin-expression-at span) Post
   returns-3 c =
-      let v = c .before .before .before .before .before .before .before .before .before .before .before .before .before .before .before .before .before .before .before .before .before .before in
+      let v = c .before .before .before .before .before .before .before .before .before .before .before .before .before .before .before
+      .before .before .before .before .before .before .before in
       let s = v .before .before .before in
       let w = v .word .ensures in
       let a = if-at _ (s .pre .1 .0 .0) _
-      (rw (w) at (sym (c .before .before .before .before .before .before .before .before .before .before .before .before .before .before .before .before .before .before .before .before .before .tag .ensures)
+      (rw (w) at (sym (c .before .before .before .before .before .before .before .before .before .before .before .before .before .before
+      .before .before .before .before .before .before .before .tag .ensures)
       ∙ c .before .before .before .before .before .before .before .before .before .before .before .before .before .before .before .before .match .keys1))
       in
-      let f = rw (c .before .before .before .before .before .before .before .before .before .before .before .before .before .before .before .first2 .ensures, w) at
+      let f = rw (
+        c .before .before .before .before .before .before .before .before .before .before .before .before .before .before
+            .before .first2 .ensures,
+        w,
+      ) at
       (c .before .before .before .before .before .before .before .before .before .before .before .before .before .write-condition .ensures) in
       let g = rw (c .before .before .before .before .before .before .before .before .before .before .second .ensures, w) at
       (c .before .before .before .before .before .before .before .before .write-expression2 .ensures) in
@@ -335,7 +347,8 @@ module _ (span : ℕ) where
       let s = v .before .before .before in
       let w = v .word .ensures in
       let a = while-at _ (s .pre .1 .0 .0) _
-      (rw (w) at (sym (c .before .before .before .before .before .before .before .before .before .before .before .before .before .before .before .before .tag .ensures) ∙ c .before .before .before .before .before .before .before .before .before .before .before .match .keys2)) in
+      (rw (w) at (sym (c .before .before .before .before .before .before .before .before .before .before .before .before .before .before
+      .before .before .tag .ensures) ∙ c .before .before .before .before .before .before .before .before .before .before .before .match .keys2)) in
       let f = rw (c .before .before .before .before .before .before .before .before .before .before .first3 .ensures, w) at
       (c .before .before .before .before .before .before .before .before .write-condition2 .ensures) in
       rw (c .second2 .ensures, w)

@@ -88,7 +88,8 @@ module _ (span : ℕ) where
       let v = c .before .before .before .before .before .before .before .before in
       let s = v .before .before .before in
       let w = v .word .ensures in
-      let e = rw (w) at (sym (c .before .before .before .before .before .before .before .tag .ensures) ∙ c .before .before .before .before .before .before .if1 .left) in
+      let e = rw (w) at (sym (c .before .before .before .before .before .before .before .tag .ensures)
+      ∙ c .before .before .before .before .before .before .if1 .left) in
       let a = list-at _ (s .pre .1 .0 .0) _ e in
       let f = rw (c .before .before .before .before .before .first .ensures, w) at (c .before .before .before .write-expression .ensures) in
       rw (w) (omega arith, two-small (s .pre .1 .1) (a .two-shape) f .0, two-small (s .pre .1 .1) (a .two-shape) f .1)
