@@ -211,8 +211,8 @@ fn by_either(log: &[u8], version: usize, all: bool) -> Found
     by_many(log, version)
 }
 
-// The answer by a table for 255 places, and where these do not suffice, or at once, by one for all. It calls itself, so that it is compiled on its own and the
-// large tables are no part of the frame that a short log's call clears a way through.
+// The answer by a table for 255 places, or at once by one for all, which decides too where 255 do not suffice. It calls itself, so that the compiler keeps it
+// apart: the frame of the large tables is then set up for such logs alone, not in every call of the entry.
 fn widened(log: &[u8], version: usize, all: bool) -> Judgement
     requires { ⌜ logRefusal (now log) ≡ none ⌝ }
     ensures { λ r. ⌜ Answers (versionOf version) (now (log .entry)) (answered r) ⌝ }

@@ -1,12 +1,13 @@
 -- The numbers of places where each has its own, and where those that are kept count. Assumes nothing.
 use Prim.Native.Nat.{ℕ, zero, suc, _+_, _<_, _≤_}
 use native.Mathlib.Omega.{arith}
-use mathlib.Core.Path.{_≡_, refl, sym, ap, subst, _∙_}
+use mathlib.Core.Path.{_≡_, refl, sym, ap, subst}
 use mathlib.Core.List.{List}
 use lib.ListN.{length, getD}
 use borrow.Author.Tests.{lt-ltb, le-ltb}
 use Rattle.log_places.specs.inner.Places.{numbersFrom, numbersOf, givenOf, Numbered, known}
 
+-- numbers in a row: how many, each below their end, and none past it
 pub from-long : (first n : ℕ) → length (numbersFrom first n) ≡ n
 unfolding numbersFrom
 from-long first zero = refl

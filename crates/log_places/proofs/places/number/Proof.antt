@@ -13,7 +13,10 @@ add-result : tie.Need-add-result
 add-result c = search needs
 
 returns : tie.Need-returns
-returns c = own-number (c .before .before .args .numbers .now) (c .before .before .args .given .now) (c .before .before .args .place) (c .before .before .args .most) (c .before .before .pre .0) (c .if1 .taken)
+returns c =
+    let start = c .before .before in
+    let a = start .args in
+    own-number (a .numbers .now) (a .given .now) (a .place) (a .most) (start .pre .0) (c .if1 .taken)
 
 slice-read-wide : tie.Need-slice-read-wide
 slice-read-wide c = search needs
