@@ -1,0 +1,49 @@
+-- `binder` meets its contract. Assumes nothing.
+use Rattle.plan_parser_goals.proofs.MoveLaws.{binder-slot, binder-dash, binder-stops}
+use Rattle.plan_parser_goals.proofs.Numbers.{binder-goal}
+use mathlib.Core.Path.{refl, _∙_}
+use native.Mathlib.Omega.{arith}
+use Rattle.plan_parser.proofs.DirectLaws.{turns-on, turns-stop}
+use borrow.Author.Needs.{needs}
+use Rattle.plan_parser.proofs.arguments.binder.Statement.{statement}
+use Rattle.plan_parser.proofs.arguments.binder.Tie as tie
+
+token-requires : tie.Need-token-requires
+token-requires c κs = search needs
+
+add-go : tie.Need-add-go
+add-go c = search needs
+
+go-requires : tie.Need-go-requires
+go-requires c κs = search needs
+
+returns : tie.Need-returns
+returns c = λ words. turns-on _ _ _ _ _ (c .before .before .before .before .before .before .pre) words _ (binder-goal _ refl) _ _ _ _ _ _ _ _ _ (c .go .ensures)
+    (λ counts. record { does = rw (c .before .before .before .before .token .ensures .0) (binder-slot counts _ (omega arith)); slight = search needs })
+
+go-requires-2 : tie.Need-go-requires-2
+go-requires-2 c κs = search needs
+
+returns-2 : tie.Need-returns-2
+returns-2 c = λ words. turns-on _ _ _ _ _ (c .before .before .before .before .before .before .before .pre) words _ (binder-goal _ refl) _ _ _ _ _ _ _ _ _ (c .go2 .ensures)
+    (λ counts. record { does = binder-dash counts _ (omega arith); slight = search needs })
+
+stop-requires : tie.Need-stop-requires
+stop-requires c κs = search needs
+
+returns-3 : tie.Need-returns-3
+returns-3 c = λ words. turns-stop _ _ _ _ _ (c .before .before .before .before .before .pre) words _ (binder-goal _ refl) _ _ (c .stop .ensures)
+    (λ counts. record { does = binder-stops counts _ (omega arith) (λ e. c .before .if2 .left (c .before .before .before .token .ensures .0 ∙ e)); slight = search needs })
+
+pub binder-spec : {M : Type 1} → statement M
+binder-spec =
+    tie.close
+    (tie.spec
+    token-requires
+    add-go
+    go-requires
+    returns
+    go-requires-2
+    returns-2
+    stop-requires
+    returns-3)

@@ -1,0 +1,50 @@
+-- `more` meets its contract. Assumes nothing.
+use Rattle.plan_parser_goals.proofs.MoveLaws.{more-stops}
+use Rattle.plan_parser_goals.proofs.Numbers.{more-goal}
+use mathlib.Core.Path.{sym, _∙_}
+use native.Mathlib.Omega.{arith}
+use Rattle.plan_parser.proofs.DirectLaws.{turns-stop}
+use borrow.Author.Needs.{needs}
+use Rattle.plan_parser.proofs.followers.more.Statement.{statement}
+use Rattle.plan_parser.proofs.followers.more.Tie as tie
+
+last-requires : tie.Need-last-requires
+last-requires c κs = search needs
+
+sort-requires : tie.Need-sort-requires
+sort-requires c κs = search needs
+
+behind-expression-requires : tie.Need-behind-expression-requires
+behind-expression-requires c κs = search needs
+
+returns : tie.Need-returns
+returns c = let q = sym (rw (c .before .before .before .before .before .last .ensures) at (c .before .before .before .before .sort .ensures)) in
+    c .behind-expression .ensures _ (q ∙ c .before .before .before .if1 .taken)
+
+behind-condition-requires : tie.Need-behind-condition-requires
+behind-condition-requires c κs = search needs
+
+returns-2 : tie.Need-returns-2
+returns-2 c = let q = sym (rw (c .before .before .before .before .before .before .last .ensures) at (c .before .before .before .before .before .sort .ensures)) in
+    c .behind-condition .ensures _ (q ∙ c .before .before .before .if2 .taken)
+
+stop-requires : tie.Need-stop-requires
+stop-requires c κs = search needs
+
+returns-3 : tie.Need-returns-3
+returns-3 c = let q = sym (rw (c .before .before .before .before .last .ensures) at (c .before .before .before .sort .ensures)) in
+    turns-stop _ _ _ _ _ (c .before .before .before .before .before .before .before .pre .0) _ _ (more-goal _ (search needs) (search needs)) _ _ (c .stop .ensures)
+    (λ counts. record { does = more-stops counts _ _ (search needs) (search needs) (λ z. c .before .before .if1 .left (sym q ∙ z)) (λ z. c .before .if2 .left (sym q ∙ z)); slight = search needs })
+
+pub more-spec : {M : Type 1} → statement M
+more-spec =
+    tie.close
+    (tie.spec
+    last-requires
+    sort-requires
+    behind-expression-requires
+    returns
+    behind-condition-requires
+    returns-2
+    stop-requires
+    returns-3)

@@ -1,0 +1,94 @@
+-- `word` meets its contract. Assumes nothing.
+use Rattle.plan_parser_goals.proofs.Numbers.{operand-goal}
+use native.Mathlib.Omega.{arith}
+use Rattle.plan_parser.proofs.DirectLaws.{turns-on, turns-stop, word-taken, word-loose, word-misplaced, word-goes}
+use borrow.Author.Needs.{needs}
+use Rattle.plan_parser.proofs.operands.word.Statement.{statement}
+use Rattle.plan_parser.proofs.operands.word.Tie as tie
+
+add-token : tie.Need-add-token
+add-token c = search needs
+
+token-requires : tie.Need-token-requires
+token-requires c κs = search needs
+
+form-of-requires : tie.Need-form-of-requires
+form-of-requires c κs = search needs
+
+binding-requires : tie.Need-binding-requires
+binding-requires c κs = search needs
+
+sub-if1 : tie.Need-sub-if1
+sub-if1 c = search needs
+
+stop-requires : tie.Need-stop-requires
+stop-requires c κs = search needs
+
+returns : tie.Need-returns
+returns c = let f = (rw (c .before .before .before .before .before .before .before .pre .1 .0, c .before .before .before .before .token .ensures .0) at (c .before .before .before .form-of .ensures)) in
+    λ words. turns-stop _ _ _ _ _ (c .before .before .before .before .before .before .before .pre .0 .0) words _ (operand-goal _ (search needs) (search needs)) _ _ (c .stop .ensures) (λ counts. word-loose counts _ _ _ (search needs) (search needs) (omega arith) (omega arith) f _ (c .before .before .binding .ensures) (c .before .if1 .taken))
+
+misplaced-requires : tie.Need-misplaced-requires
+misplaced-requires c κs = search needs
+
+stop-requires-2 : tie.Need-stop-requires-2
+stop-requires-2 c κs = search needs
+
+returns-2 : tie.Need-returns-2
+returns-2 c = let f = (rw (c .before .before .before .before .before .before .before .before .before .pre .1 .0, c .before .before .before .before .before .before .token .ensures .0) at (c .before .before .before .before .before .form-of .ensures)) in
+    λ words. turns-stop _ _ _ _ _ (c .before .before .before .before .before .before .before .before .before .pre .0 .0) words _ (operand-goal _ (search needs) (search needs)) _ _ (c .stop2 .ensures) (λ counts. word-misplaced counts _ _ _ (search needs) (search needs) (omega arith) (omega arith) f _ (c .before .before .before .before .binding .ensures) (search needs) (rw (c .before .if2 .taken) at (c .before .before .misplaced .ensures)))
+
+taken-by-requires : tie.Need-taken-by-requires
+taken-by-requires c κs = search needs
+
+value-of-requires : tie.Need-value-of-requires
+value-of-requires c κs = search needs
+
+add-go : tie.Need-add-go
+add-go c = search needs
+
+goals-requires : tie.Need-goals-requires
+goals-requires c κs = search needs
+
+go-requires : tie.Need-go-requires
+go-requires c κs = let d = c .before .before .before .before .before .before .before .before .before .before .before .before .before .pre .0 .0 in
+    let w = word-taken _ _ _ _ _ (c .before .before .before .before .before .before .before .before .before .form-of .ensures) (c .before .before .before .before .taken-by .ensures) (c .before .before .before .value-of .ensures) in
+    record {
+      goals-long = d .goals-long;
+      values-long = d .values-long;
+      going = d .going;
+      at-small = d .at-small;
+      taken-small = omega arith;
+      kept-small = omega arith;
+      next-small = omega arith;
+      popped-small = omega arith;
+      value-large = omega arith;
+      value-small = omega arith;
+    }
+
+returns-3 : tie.Need-returns-3
+returns-3 c = let f = (rw (c .before .before .before .before .before .before .before .before .before .before .before .before .before .before .pre .1 .0, c .before .before .before .before .before .before .before .before .before .before .before .token .ensures .0) at (c .before .before .before .before .before .before .before .before .before .before .form-of .ensures)) in
+    λ words. turns-on _ _ _ _ _ (c .before .before .before .before .before .before .before .before .before .before .before .before .before .before .pre .0 .0) words _ (operand-goal _ (search needs) (search needs)) _ _ _ _ _ _ _ _ _ (c .go .ensures)
+    (λ counts. word-goes counts _ _ _ (search needs) (search needs) (omega arith) (omega arith) f _ (c .before .before .before .before .before .before .before .before .before .binding .ensures) (search needs) (rw (c .before .before .before .before .before .before .if2 .left) at (c .before .before .before .before .before .before .before .misplaced .ensures)) _ _ _ (c .before .before .before .before .before .taken-by .ensures)
+    (c .before .before .before .before .value-of .ensures) (c .before .goals .ensures))
+
+pub word-spec : {M : Type 1} → statement M
+word-spec =
+    tie.close
+    (tie.spec
+    add-token
+    token-requires
+    form-of-requires
+    binding-requires
+    sub-if1
+    stop-requires
+    returns
+    misplaced-requires
+    stop-requires-2
+    returns-2
+    taken-by-requires
+    value-of-requires
+    add-go
+    goals-requires
+    go-requires
+    returns-3)

@@ -1,0 +1,27 @@
+-- `make` meets its contract. Assumes nothing.
+use mathlib.Core.Path.{refl}
+use native.Mathlib.Omega.{arith}
+use borrow.Author.Needs.{needs}
+use Rattle.plan_parser.proofs.turns.make.Statement.{statement}
+use Rattle.plan_parser.proofs.turns.make.Tie as tie
+
+stop-requires : tie.Need-stop-requires
+stop-requires c κs = search needs
+
+returns : tie.Need-returns
+returns c = rw (c .stop .ensures) ((c .before .if1 .taken), refl, refl, refl, refl)
+
+make-on-requires : tie.Need-make-on-requires
+make-on-requires c κs = (c .before .before .before .before .pre .1 (omega (arith, c .before .before .if1 .left)), c .before .before .before .before .pre .0)
+
+returns-2 : tie.Need-returns-2
+returns-2 c = (omega (arith, c .before .before .before .if1 .left), c .make-on .ensures)
+
+pub make-spec : {M : Type 1} → statement M
+make-spec =
+    tie.close
+    (tie.spec
+    stop-requires
+    returns
+    make-on-requires
+    returns-2)
