@@ -12,9 +12,7 @@ use Rattle.plan_parsing.specs.Goals.{Goal, operand, make, Value}
 use Rattle.plan_parsing.specs.Parser.{step, begun}
 use Rattle.plan_parser_goals.specs.inner.Encoded.{goalOf, sortOf}
 use Rattle.plan_parser_goals.specs.inner.Moves.{Calls, Does, Formed, PackedForm, Small, Sound, formAt, onto, pushed, done}
-use Rattle.plan_parser_goals.specs.declared.Sight.{Sight}
-use Rattle.plan_parser_goals.specs.declared.Move.{Move}
-use Rattle.plan_parser_goals.specs.declared.Move.the-variants.{Go, Make, Stop}
+use Rattle.plan_parser_goals.specs.inner.Moves.{Sight, Move, Go, Make, Stop}
 use Rattle.plan_parser_goals.proofs.Numbers.{make-goal}
 use Rattle.plan_parser_goals.proofs.MoveLaws.{make-is, moved, word-new, word-other, word-all, word-notify}
 use Rattle.plan_parser_goals.proofs.MoveLaws.{form-loose, form-refused, form-taken, form-term}

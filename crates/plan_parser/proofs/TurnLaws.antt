@@ -19,8 +19,7 @@ use Rattle.plan_parser.specs.inner.Reading.{State, Going, Found, Room, W
 use Rattle.plan_parser.specs.declared.turns.Standing.{Standing}
 use Rattle.plan_parser.specs.declared.turns.Turn.the-variants.{On}
 use Rattle.plan_parser.specs.declared.turns.Turn.the-variants as turn
-use Rattle.plan_parser_goals.specs.declared.Move.{Move}
-use Rattle.plan_parser_goals.specs.declared.Move.the-variants.{Go, Make, Stop}
+use Rattle.plan_parser_goals.specs.inner.Moves.{Move, Go, Make, Stop}
 use Rattle.plan_parser.proofs.FitLaws.{FitsAfter, step-fits, fits-sound}
 
 -- ---- numbers

@@ -16,9 +16,7 @@ use Rattle.plan_parsing.specs.Parser.{Reason, Step, go, stop, wanted, takesCond
 use Rattle.plan_parsing.specs.Parser.{operandStep, wordForm, begun}
 use Rattle.plan_parser_goals.specs.inner.Encoded.{goalOf, reasonOf, sortOf, stacked, unpacked, valueSort}
 use Rattle.plan_parser_goals.specs.inner.Moves.{IsBelow, MaskTo, Seen, Does, Calls, onto, pushed, done, formAt, PackedForm, Formed, Ends}
-use Rattle.plan_parser_goals.specs.declared.Sight.{Sight}
-use Rattle.plan_parser_goals.specs.declared.Move.{Move}
-use Rattle.plan_parser_goals.specs.declared.Move.the-variants.{Go, Make, Stop}
+use Rattle.plan_parser_goals.specs.inner.Moves.{Sight, Move, Go, Make, Stop}
 use Rattle.plan_parser_goals.proofs.FormTable.{form-condition, form-expression}
 use Rattle.plan_parser_goals.proofs.Numbers.{expect-goal, operand-goal, more-goal, count-goal, fields-goal, further-goal, more-above, reason-goal, stacked-some}
 use Rattle.plan_parser_goals.proofs.Numbers.{pushed-some, expression-is, condition-is, neither-is, takes, takes-not, inside-expression, inside-either}

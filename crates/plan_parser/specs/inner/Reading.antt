@@ -9,10 +9,9 @@ use Rattle.plan_parsing.specs.Parser as definition
 use Rattle.plan_parsing.specs.Parser.{Step, go, stop, step, parseBy, parse}
 use Rattle.plan_parser_goals.specs.inner.Encoded.{goalOf, reasonOf, goalsOf, stacked, unpacked, valuesOf}
 use Rattle.plan_parser_goals.specs.inner.Moves.{Fits, onto, Calls}
+use Rattle.plan_parser_goals.specs.inner.Moves.{Sight, Move}
 use Rattle.plan_parser.specs.inner.Stacks.{Stacked, Entries, Put, Looks}
 use Rattle.plan_parser.specs.inner.Making.{Makes}
-use Rattle.plan_parser_goals.specs.declared.Sight.{Sight}
-use Rattle.plan_parser_goals.specs.declared.Move.{Move}
 use Rattle.plan_parser.specs.declared.turns.Standing.{Standing}
 use Rattle.plan_parser.specs.declared.turns.Turn.{Turn}
 use Rattle.plan_parser.specs.declared.turns.Turn.the-variants.{On, Stop}

@@ -7,8 +7,7 @@ use lib.Dec.{ltb}
 use lib.ListN.{length, getD}
 use Rattle.plan_parser_goals.specs.inner.Encoded.{goalOf, valueOf, valueSort}
 use Rattle.plan_parser_goals.specs.inner.Moves.{Calls, Ends}
-use Rattle.plan_parser_goals.specs.declared.Sight.{Sight}
-use Rattle.plan_parser_goals.specs.declared.Move.{Move}
+use Rattle.plan_parser_goals.specs.inner.Moves.{Sight, Move}
 use Rattle.plan_parser.specs.inner.Stacks.{lastOf}
 use Rattle.plan_parser.specs.inner.Reading.{State, Going, WentWith, Turned}
 use Rattle.plan_parser.specs.declared.turns.Standing.{Standing}
