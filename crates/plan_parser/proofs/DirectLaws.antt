@@ -163,7 +163,8 @@ module _ (counts : List ℕ) (s : Sight) (c form : ℕ) (l : 160 ≤ c) (b : c <
       choice (yes a) (yes x) z = absurd (omega arith)
       choice (yes a) (no x) z =
           word-all counts s c l b m h g (f .all-is a .0) (f .all-is a .1)
-          (subst (λ (i : ℕ). Formed c s i 2 0 m) a (subst (λ (i : ℕ). Formed c s form i 0 m) (t .0 a) (subst (λ (i : ℕ). Formed c s form taken i m) (v .1 x) p)))
+          (subst (λ (i : ℕ). Formed c s i 2 0 m) a
+          (subst (λ (i : ℕ). Formed c s form i 0 m) (t .0 a) (subst (λ (i : ℕ). Formed c s form taken i m) (v .1 x) p)))
       choice (no a) (yes x) z =
           let k = f .other-is a in
           word-new counts s c l b m h g (omega arith)

@@ -15,7 +15,7 @@ use Rattle.plan_parser_goals.specs.inner.Encoded.{goalOf, reasonOf, goalsOf, va
 use Rattle.plan_parser_goals.specs.inner.Moves.{Operands, operandKinds, Fits, onto, done, Small, Calls, Sound}
 use Rattle.plan_parser.specs.inner.Stacks.{Entries, Stacked, Put, Looks}
 use Rattle.plan_parser.specs.inner.Making.{Makeable, Makes}
-use Rattle.plan_parser.specs.inner.Reading.{State, Going, Found, Room, Went, WentWith, shown, Nearer, Kept, Turned}
+use Rattle.plan_parser.specs.inner.Reading.{State, Going, Found, Went, WentWith, shown, Nearer, Kept, Turned}
 use Rattle.plan_parser.specs.declared.turns.Standing.{Standing}
 use Rattle.plan_parser.specs.declared.turns.Turn.the-variants.{On}
 use Rattle.plan_parser.specs.declared.turns.Turn.the-variants as turn
@@ -94,24 +94,6 @@ module _ (tokens counts goals values words : List ℕ) (s : Standing) (st : Stat
   -- ---- a move
 
   module _ (taken kept next digits popped value : ℕ) (f : Found tokens counts goals values words s (Go taken kept next digits popped value)) where
-    pub room : Room goals values s taken kept next popped value
-    room =
-        let m = f .calls .slight in
-        let i = st .inside in
-        let k = st .tokens-few in
-        record {
-          goals-long = st .goals-long;
-          values-long = st .values-long;
-          going = gg;
-          at-small = omega arith;
-          taken-small = let t = m .to-third in omega arith;
-          kept-small = m .kept-small;
-          next-small = m .next-small;
-          popped-small = m .popped-small;
-          value-large = m .value-large;
-          value-small = m .value-small;
-        }
-
     module _ (goals′ values′ : List ℕ) (s′ : Standing) (w : Went goals values s taken kept next digits popped value goals′ values′ s′) where
       went-says : shown tokens goals′ values′ words (On s′) ≡ onto below (step counts (goalOf code) held (s .left) ahead)
       unfolding shown done

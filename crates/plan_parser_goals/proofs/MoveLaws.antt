@@ -18,7 +18,8 @@ use Rattle.plan_parser_goals.specs.inner.Encoded.{goalOf, reasonOf, sort
 use Rattle.plan_parser_goals.specs.inner.Moves.{IsBelow, MaskTo, Seen, Does, Calls, onto, pushed, done, formAt, PackedForm, Formed, Ends}
 use Rattle.plan_parser_goals.specs.inner.Moves.{Sight, Move, Go, Make, Stop}
 use Rattle.plan_parser_goals.proofs.FormTable.{form-condition, form-expression}
-use Rattle.plan_parser_goals.proofs.Numbers.{expect-goal, operand-goal, more-goal, count-goal, fields-goal, further-goal, more-above, reason-goal, stacked-some}
+use Rattle.plan_parser_goals.proofs.Numbers.{expect-goal, operand-goal, more-goal, count-goal, fields-goal, further-goal}
+use Rattle.plan_parser_goals.proofs.Numbers.{more-above, reason-goal, stacked-some}
 use Rattle.plan_parser_goals.proofs.Numbers.{pushed-some, expression-is, condition-is, neither-is, takes, takes-not, inside-expression, inside-either}
 use Rattle.plan_parser_goals.proofs.Numbers.{fits-either, fits-same, fits-not, fits-neither}
 

@@ -40,7 +40,8 @@ pub record Ready (goals values : List ℕ) (s : Standing) (code : ℕ) : Type 0 
 -- its turn, whatever the counts of the procedures are
 abbrev pub Turns : List ℕ → List ℕ → List ℕ → List ℕ → List ℕ → List ℕ → List ℕ → Standing → Turn → Type 0
 Turns tokens goals values words goals′ values′ words′ s r =
-    (counts : List ℕ) → ((i : ℕ) → getD counts i 0 < 256) → State tokens goals values words s → Turned tokens counts goals values words goals′ values′ words′ s r
+    (counts : List ℕ) → ((i : ℕ) → getD counts i 0 < 256) → State tokens goals values words s
+    → Turned tokens counts goals values words goals′ values′ words′ s r
 
 -- the same, whatever the terms are
 abbrev pub TurnsAny : List ℕ → List ℕ → List ℕ → List ℕ → List ℕ → Standing → Turn → Type 0

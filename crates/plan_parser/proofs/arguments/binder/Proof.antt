@@ -18,22 +18,40 @@ go-requires : tie.Need-go-requires
 go-requires c κs = search needs
 
 returns : tie.Need-returns
-returns c = λ words. turns-on _ _ _ _ _ (c .before .before .before .before .before .before .pre) words _ (binder-goal _ refl) _ _ _ _ _ _ _ _ _ (c .go .ensures)
-    (λ counts. record { does = rw (c .before .before .before .before .token .ensures .0) (binder-slot counts _ (omega arith)); slight = search needs })
+returns c =
+    let pre = c .before .before .before .before .before .before .pre in
+    let token = c .before .before .before .before .token in
+    λ words. turns-on _ _ _ _ _ (pre) words _ (binder-goal _ refl) _ _ _ _ _ _ _ _ _ (c .go .ensures)
+    (λ counts. record {
+      does = rw (token .ensures .0) (binder-slot counts _ (omega arith));
+      slight = search needs;
+    })
 
 go-requires-2 : tie.Need-go-requires-2
 go-requires-2 c κs = search needs
 
 returns-2 : tie.Need-returns-2
-returns-2 c = λ words. turns-on _ _ _ _ _ (c .before .before .before .before .before .before .before .pre) words _ (binder-goal _ refl) _ _ _ _ _ _ _ _ _ (c .go2 .ensures)
-    (λ counts. record { does = binder-dash counts _ (omega arith); slight = search needs })
+returns-2 c =
+    let pre = c .before .before .before .before .before .before .before .pre in
+    λ words. turns-on _ _ _ _ _ (pre) words _ (binder-goal _ refl) _ _ _ _ _ _ _ _ _ (c .go2 .ensures)
+    (λ counts. record {
+      does = binder-dash counts _ (omega arith);
+      slight = search needs;
+    })
 
 stop-requires : tie.Need-stop-requires
 stop-requires c κs = search needs
 
 returns-3 : tie.Need-returns-3
-returns-3 c = λ words. turns-stop _ _ _ _ _ (c .before .before .before .before .before .pre) words _ (binder-goal _ refl) _ _ (c .stop .ensures)
-    (λ counts. record { does = binder-stops counts _ (omega arith) (λ e. c .before .if2 .left (c .before .before .before .token .ensures .0 ∙ e)); slight = search needs })
+returns-3 c =
+    let pre = c .before .before .before .before .before .pre in
+    let if2 = c .before .if2 in
+    let token = c .before .before .before .token in
+    λ words. turns-stop _ _ _ _ _ (pre) words _ (binder-goal _ refl) _ _ (c .stop .ensures)
+    (λ counts. record {
+      does = binder-stops counts _ (omega arith) (λ e. if2 .left (token .ensures .0 ∙ e));
+      slight = search needs;
+    })
 
 pub binder-spec : {M : Type 1} → statement M
 binder-spec =

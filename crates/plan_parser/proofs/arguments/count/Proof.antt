@@ -17,15 +17,26 @@ go-requires : tie.Need-go-requires
 go-requires c κs = search needs
 
 returns : tie.Need-returns
-returns c = λ words. turns-on _ _ _ _ _ (c .before .before .before .before .before .before .pre .0) words _ (count-goal _ (search needs) (search needs)) _ _ _ _ _ _ _ _ _ (c .go .ensures)
-    (λ counts. record { does = rw (c .before .before .before .before .token .ensures .0) (count-number counts _ (omega arith)); slight = search needs })
+returns c =
+    let pre = c .before .before .before .before .before .before .pre in
+    let token = c .before .before .before .before .token in
+    λ words. turns-on _ _ _ _ _ (pre .0) words _ (count-goal _ (search needs) (search needs)) _ _ _ _ _ _ _ _ _ (c .go .ensures)
+    (λ counts. record {
+      does = rw (token .ensures .0) (count-number counts _ (omega arith));
+      slight = search needs;
+    })
 
 stop-requires : tie.Need-stop-requires
 stop-requires c κs = search needs
 
 returns-2 : tie.Need-returns-2
-returns-2 c = λ words. turns-stop _ _ _ _ _ (c .before .before .before .before .pre .0) words _ (count-goal _ (search needs) (search needs)) _ _ (c .stop .ensures)
-    (λ counts. record { does = count-stops counts _ _ (search needs) (search needs) (omega arith); slight = search needs })
+returns-2 c =
+    let pre = c .before .before .before .before .pre in
+    λ words. turns-stop _ _ _ _ _ (pre .0) words _ (count-goal _ (search needs) (search needs)) _ _ (c .stop .ensures)
+    (λ counts. record {
+      does = count-stops counts _ _ (search needs) (search needs) (omega arith);
+      slight = search needs;
+    })
 
 pub count-spec : {M : Type 1} → statement M
 count-spec =

@@ -15,15 +15,27 @@ go-requires : tie.Need-go-requires
 go-requires c κs = search needs
 
 returns : tie.Need-returns
-returns c = λ words. turns-on _ _ _ _ _ (c .before .before .before .before .before .before .pre .0) words _ (expect-goal _ (search needs)) _ _ _ _ _ _ _ _ _ (c .go .ensures)
-    (λ counts. record { does = expect-taken counts _ _ (omega arith); slight = search needs })
+returns c =
+    let pre = c .before .before .before .before .before .before .pre in
+    λ words. turns-on _ _ _ _ _ (pre .0) words _ (expect-goal _ (search needs)) _ _ _ _ _ _ _ _ _ (c .go .ensures)
+    (λ counts. record {
+      does = expect-taken counts _ _ (omega arith);
+      slight = search needs;
+    })
 
 stop-requires : tie.Need-stop-requires
 stop-requires c κs = search needs
 
 returns-2 : tie.Need-returns-2
-returns-2 c = λ words. turns-stop _ _ _ _ _ (c .before .before .before .before .pre .0) words _ (expect-goal _ (search needs)) _ _ (c .stop .ensures)
-    (λ counts. record { does = expect-stops counts _ _ (search needs) (λ e. c .before .if1 .left (c .before .before .token .ensures .0 ∙ e)); slight = search needs })
+returns-2 c =
+    let pre = c .before .before .before .before .pre in
+    let if1 = c .before .if1 in
+    let token = c .before .before .token in
+    λ words. turns-stop _ _ _ _ _ (pre .0) words _ (expect-goal _ (search needs)) _ _ (c .stop .ensures)
+    (λ counts. record {
+      does = expect-stops counts _ _ (search needs) (λ e. if1 .left (token .ensures .0 ∙ e));
+      slight = search needs;
+    })
 
 pub expect-spec : {M : Type 1} → statement M
 expect-spec =

@@ -15,15 +15,29 @@ go-requires : tie.Need-go-requires
 go-requires c κs = search needs
 
 returns : tie.Need-returns
-returns c = λ words. turns-on _ _ _ _ _ (c .before .before .before .before .before .before .before .pre .0) words _ (further-goal _ (search needs)) _ _ _ _ _ _ _ _ _ (c .go .ensures)
-    (λ counts. record { does = further-end counts _ _ (c .before .before .before .before .if1 .taken) (omega arith); slight = search needs })
+returns c =
+    let pre = c .before .before .before .before .before .before .before .pre in
+    let if1 = c .before .before .before .before .if1 in
+    λ words. turns-on _ _ _ _ _ (pre .0) words _ (further-goal _ (search needs)) _ _ _ _ _ _ _ _ _ (c .go .ensures)
+    (λ counts. record {
+      does = further-end counts _ _ (if1 .taken) (omega arith);
+      slight = search needs;
+    })
 
 stop-requires : tie.Need-stop-requires
 stop-requires c κs = search needs
 
 returns-2 : tie.Need-returns-2
-returns-2 c = λ words. turns-stop _ _ _ _ _ (c .before .before .before .before .before .pre .0) words _ (further-goal _ (search needs)) _ _ (c .stop .ensures)
-    (λ counts. record { does = further-open counts _ _ (c .before .before .if1 .taken) (λ e. c .before .if2 .left (c .before .before .before .token .ensures .0 ∙ e)); slight = search needs })
+returns-2 c =
+    let pre = c .before .before .before .before .before .pre in
+    let if1 = c .before .before .if1 in
+    let if2 = c .before .if2 in
+    let token = c .before .before .before .token in
+    λ words. turns-stop _ _ _ _ _ (pre .0) words _ (further-goal _ (search needs)) _ _ (c .stop .ensures)
+    (λ counts. record {
+      does = further-open counts _ _ (if1 .taken) (λ e. if2 .left (token .ensures .0 ∙ e));
+      slight = search needs;
+    })
 
 sub-go-on : tie.Need-sub-go-on
 sub-go-on c = search needs
@@ -32,15 +46,29 @@ go-on-requires : tie.Need-go-on-requires
 go-on-requires c κs = search needs
 
 returns-3 : tie.Need-returns-3
-returns-3 c = λ words. turns-on _ _ _ _ _ (c .before .before .before .before .before .before .before .pre .0) words _ (further-goal _ (search needs)) _ _ _ _ _ _ _ _ _ (c .go-on .ensures)
-    (λ counts. record { does = further-comma counts _ _ (search needs) (c .before .before .before .before .if1 .left) (omega arith); slight = search needs })
+returns-3 c =
+    let pre = c .before .before .before .before .before .before .before .pre in
+    let if1 = c .before .before .before .before .if1 in
+    λ words. turns-on _ _ _ _ _ (pre .0) words _ (further-goal _ (search needs)) _ _ _ _ _ _ _ _ _ (c .go-on .ensures)
+    (λ counts. record {
+      does = further-comma counts _ _ (search needs) (if1 .left) (omega arith);
+      slight = search needs;
+    })
 
 stop-requires-2 : tie.Need-stop-requires-2
 stop-requires-2 c κs = search needs
 
 returns-4 : tie.Need-returns-4
-returns-4 c = λ words. turns-stop _ _ _ _ _ (c .before .before .before .before .before .pre .0) words _ (further-goal _ (search needs)) _ _ (c .stop2 .ensures)
-    (λ counts. record { does = further-stops counts _ _ (search needs) (search needs) (c .before .before .if1 .left) (λ e. c .before .if3 .left (c .before .before .before .token .ensures .0 ∙ e)); slight = search needs })
+returns-4 c =
+    let pre = c .before .before .before .before .before .pre in
+    let if1 = c .before .before .if1 in
+    let if3 = c .before .if3 in
+    let token = c .before .before .before .token in
+    λ words. turns-stop _ _ _ _ _ (pre .0) words _ (further-goal _ (search needs)) _ _ (c .stop2 .ensures)
+    (λ counts. record {
+      does = further-stops counts _ _ (search needs) (search needs) (if1 .left) (λ e. if3 .left (token .ensures .0 ∙ e));
+      slight = search needs;
+    })
 
 pub further-spec : {M : Type 1} → statement M
 further-spec =

@@ -17,15 +17,29 @@ stop-requires : tie.Need-stop-requires
 stop-requires c κs = search needs
 
 returns : tie.Need-returns
-returns c = λ words st. called-stop _ _ _ _ _ (c .before .before .before .before .before .pre) words _ (λ i. omega (arith, c .before .before .before .shared-slice-known2 .given i)) st _ (procedure-goal _ refl) _ _ (c .stop .ensures)
-    (record { does = procedure-high _ _ (omega arith); slight = search needs })
+returns c =
+    let pre = c .before .before .before .before .before .pre in
+    let shared-slice-known2 = c .before .before .before .shared-slice-known2 in
+    λ words st. called-stop _ _ _ _ _ (pre) words _ (λ i. omega (arith, shared-slice-known2 .given i)) st _ (procedure-goal _ refl) _ _
+    (c .stop .ensures)
+    (record {
+      does = procedure-high _ _ (omega arith);
+      slight = search needs;
+    })
 
 stop-requires-2 : tie.Need-stop-requires-2
 stop-requires-2 c κs = search needs
 
 returns-2 : tie.Need-returns-2
-returns-2 c = λ words st. called-stop _ _ _ _ _ (c .before .before .before .before .before .before .pre) words _ (λ i. omega (arith, c .before .before .before .before .shared-slice-known2 .given i)) st _ (procedure-goal _ refl) _ _ (c .stop2 .ensures)
-    (record { does = procedure-none _ _ (omega arith) (omega arith); slight = search needs })
+returns-2 c =
+    let pre = c .before .before .before .before .before .before .pre in
+    let shared-slice-known2 = c .before .before .before .before .shared-slice-known2 in
+    λ words st. called-stop _ _ _ _ _ (pre) words _ (λ i. omega (arith, shared-slice-known2 .given i)) st _ (procedure-goal _ refl) _ _
+    (c .stop2 .ensures)
+    (record {
+      does = procedure-none _ _ (omega arith) (omega arith);
+      slight = search needs;
+    })
 
 shared-slice-read-wide : tie.Need-shared-slice-read-wide
 shared-slice-read-wide c = search needs
@@ -40,8 +54,19 @@ go-requires : tie.Need-go-requires
 go-requires c κs = search needs
 
 returns-3 : tie.Need-returns-3
-returns-3 c = λ words st. called-on _ _ _ _ _ (c .before .before .before .before .before .before .before .before .before .before .before .pre) words _ (λ i. omega (arith, c .before .before .before .before .before .before .before .before .before .shared-slice-known2 .given i)) st _ (procedure-goal _ refl) _ _ _ _ _ _ _ _ _ (c .go .ensures)
-    (record { does = rw (c .before .before .before .before .before .before .before .before .token .ensures .0) (procedure-alone _ _ (omega arith) (omega arith) (rw (c .before .before .before .before .before .before .before .before .token .ensures .0) at (sym (c .before .before .before .before .wide .ensures .0) ∙ (c .before .before .before .if3 .taken)))); slight = search needs })
+returns-3 c =
+    let pre = c .before .before .before .before .before .before .before .before .before .before .before .pre in
+    let shared-slice-known2 = c .before .before .before .before .before .before .before .before .before .shared-slice-known2 in
+    let token = c .before .before .before .before .before .before .before .before .token in
+    let wide = c .before .before .before .before .wide in
+    let if3 = c .before .before .before .if3 in
+    λ words st. called-on _ _ _ _ _ (pre) words _ (λ i. omega (arith, shared-slice-known2 .given i)) st _ (procedure-goal _ refl) _ _ _ _ _ _ _ _ _
+    (c .go .ensures)
+    (record {
+      does = rw (token .ensures .0) (procedure-alone _ _ (omega arith) (omega arith) (rw (token .ensures .0) at (sym
+          (wide .ensures .0) ∙ if3 .taken)));
+      slight = search needs;
+    })
 
 add-go-on : tie.Need-add-go-on
 add-go-on c = search needs
@@ -53,12 +78,20 @@ go-on-requires : tie.Need-go-on-requires
 go-on-requires c κs = search needs
 
 returns-4 : tie.Need-returns-4
-returns-4 c = λ words st. called-on _ _ _ _ _ (c .before .before .before .before .before .before .before .before .before .before .before .pre) words _ (λ i. omega (arith, c .before .before .before .before .before .before .before .before .before .shared-slice-known2 .given i)) st _ (procedure-goal _ refl) _ _ _ _ _ _ _ _ _ (c .go-on .ensures)
-    (let r = c .before .before .before .before .wide .result in
-    let q : 639 + r ≡ 640 + (r - 1) = omega (arith, c .before .before .before .if3 .left) in
-    let e : r ≡ suc (r - 1) = omega (arith, c .before .before .before .if3 .left) in
+returns-4 c =
+    let pre = c .before .before .before .before .before .before .before .before .before .before .before .pre in
+    let shared-slice-known2 = c .before .before .before .before .before .before .before .before .before .shared-slice-known2 in
+    let wide = c .before .before .before .before .wide in
+    let if3 = c .before .before .before .if3 in
+    let token = c .before .before .before .before .before .before .before .before .token in
+    λ words st. called-on _ _ _ _ _ (pre) words _ (λ i. omega (arith, shared-slice-known2 .given i)) st _ (procedure-goal _ refl) _ _ _ _ _ _ _ _ _
+    (c .go-on .ensures)
+    (let r = wide .result in
+    let q : 639 + r ≡ 640 + (r - 1) = omega (arith, if3 .left) in
+    let e : r ≡ suc (r - 1) = omega (arith, if3 .left) in
     record {
-      does = rw (q, c .before .before .before .before .before .before .before .before .token .ensures .0) (procedure-arguments _ _ (r - 1) (omega arith) (omega arith) (rw (c .before .before .before .before .before .before .before .before .token .ensures .0) at (sym (c .before .before .before .before .wide .ensures .0) ∙ e)));
+      does = rw (q, token .ensures .0) (procedure-arguments _ _ (r - 1) (omega arith) (omega arith) (rw (token .ensures .0) at (sym
+          (wide .ensures .0) ∙ e)));
       slight = search needs;
     })
 

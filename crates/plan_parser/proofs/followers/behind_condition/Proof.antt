@@ -15,26 +15,35 @@ end-requires : tie.Need-end-requires
 end-requires c κs = search needs
 
 returns : tie.Need-returns
-returns c = λ words e. c .end .ensures _ words e (λ counts m x. moved _ _ _ _ _ (more-goal _ (search needs) (search needs)) (record {
-  does = and-none counts _ _ (search needs) (search needs) e m (λ z. c .before .before .before .if1 .taken (c .before .before .before .before .token .ensures .0 ∙ z)) x;
-  slight = x .slight;
-}))
+returns c =
+    let if1 = c .before .before .before .if1 in
+    let token = c .before .before .before .before .token in
+    λ words e. c .end .ensures _ words e (λ counts m x. moved _ _ _ _ _ (more-goal _ (search needs) (search needs)) (record {
+      does = and-none counts _ _ (search needs) (search needs) e m (λ z. if1 .taken (token .ensures .0 ∙ z)) x;
+      slight = x .slight;
+    }))
 
 end-requires-2 : tie.Need-end-requires-2
 end-requires-2 c κs = search needs
 
 returns-2 : tie.Need-returns-2
-returns-2 c = λ words e. c .end2 .ensures _ words e (λ counts m x. moved _ _ _ _ _ (more-goal _ (search needs) (search needs)) (record {
-  does = and-tight counts _ _ (search needs) (search needs) e m (omega arith) (search needs) x;
-  slight = x .slight;
-}))
+returns-2 c =
+    λ words e. c .end2 .ensures _ words e (λ counts m x. moved _ _ _ _ _ (more-goal _ (search needs) (search needs)) (record {
+      does = and-tight counts _ _ (search needs) (search needs) e m (omega arith) (search needs) x;
+      slight = x .slight;
+    }))
 
 go-requires : tie.Need-go-requires
 go-requires c κs = search needs
 
 returns-3 : tie.Need-returns-3
-returns-3 c = λ words e. turns-on _ _ _ _ _ (c .before .before .before .before .before .before .before .pre .0) words _ (more-goal _ (search needs) (search needs)) _ _ _ _ _ _ _ _ _ (c .go .ensures)
-    (λ counts. record { does = and-goes counts _ _ (search needs) (search needs) e (omega arith) (search needs); slight = search needs })
+returns-3 c =
+    let pre = c .before .before .before .before .before .before .before .pre in
+    λ words e. turns-on _ _ _ _ _ (pre .0) words _ (more-goal _ (search needs) (search needs)) _ _ _ _ _ _ _ _ _ (c .go .ensures)
+    (λ counts. record {
+      does = and-goes counts _ _ (search needs) (search needs) e (omega arith) (search needs);
+      slight = search needs;
+    })
 
 pub behind-condition-spec : {M : Type 1} → statement M
 behind-condition-spec =

@@ -21,19 +21,27 @@ end-requires : tie.Need-end-requires
 end-requires c κs = search needs
 
 returns-2 : tie.Need-returns-2
-returns-2 c = λ words e. c .end .ensures _ words e (λ counts m x. moved _ _ _ _ _ (more-goal _ (search needs) (search needs)) (record {
-  does = equal-none counts _ _ (search needs) (search needs) e (λ z. c .before .before .before .before .if1 .left (c .before .before .before .before .before .token .ensures .0 ∙ z)) m (λ z. c .before .before .before .if2 .taken (c .before .before .before .before .before .token .ensures .0 ∙ z)) x;
-  slight = x .slight;
-}))
+returns-2 c =
+    let if1 = c .before .before .before .before .if1 in
+    let token = c .before .before .before .before .before .token in
+    let if2 = c .before .before .before .if2 in
+    λ words e. c .end .ensures _ words e (λ counts m x. moved _ _ _ _ _ (more-goal _ (search needs) (search needs)) (record {
+      does = equal-none counts _ _ (search needs) (search needs) e (λ z. if1 .left (token .ensures .0 ∙ z)) m (λ z. if2 .taken
+          (token .ensures .0 ∙ z)) x;
+      slight = x .slight;
+    }))
 
 end-requires-2 : tie.Need-end-requires-2
 end-requires-2 c κs = search needs
 
 returns-3 : tie.Need-returns-3
-returns-3 c = λ words e. c .end2 .ensures _ words e (λ counts m x. moved _ _ _ _ _ (more-goal _ (search needs) (search needs)) (record {
-  does = equal-tight counts _ _ (search needs) (search needs) e (λ z. c .before .before .before .before .before .if1 .left (c .before .before .before .before .before .before .token .ensures .0 ∙ z)) m (omega arith) (search needs) x;
-  slight = x .slight;
-}))
+returns-3 c =
+    let if1 = c .before .before .before .before .before .if1 in
+    let token = c .before .before .before .before .before .before .token in
+    λ words e. c .end2 .ensures _ words e (λ counts m x. moved _ _ _ _ _ (more-goal _ (search needs) (search needs)) (record {
+      does = equal-tight counts _ _ (search needs) (search needs) e (λ z. if1 .left (token .ensures .0 ∙ z)) m (omega arith) (search needs) x;
+      slight = x .slight;
+    }))
 
 sub-if4 : tie.Need-sub-if4
 sub-if4 c = search needs
@@ -42,17 +50,30 @@ end-requires-3 : tie.Need-end-requires-3
 end-requires-3 c κs = search needs
 
 returns-4 : tie.Need-returns-4
-returns-4 c = λ words e. c .end3 .ensures _ words e (λ counts m x. moved _ _ _ _ _ (more-goal _ (search needs) (search needs)) (record {
-  does = equal-sort counts _ _ (search needs) (search needs) e (λ z. c .before .before .before .before .before .before .if1 .left (c .before .before .before .before .before .before .before .token .ensures .0 ∙ z)) m (omega arith) (search needs) (c .before .before .before .if4 .taken) x;
-  slight = x .slight;
-}))
+returns-4 c =
+    let if1 = c .before .before .before .before .before .before .if1 in
+    let token = c .before .before .before .before .before .before .before .token in
+    let if4 = c .before .before .before .if4 in
+    λ words e. c .end3 .ensures _ words e (λ counts m x. moved _ _ _ _ _ (more-goal _ (search needs) (search needs)) (record {
+      does = equal-sort counts _ _ (search needs) (search needs) e (λ z. if1 .left (token .ensures .0 ∙ z)) m (omega arith) (search needs)
+          (if4 .taken) x;
+      slight = x .slight;
+    }))
 
 go-requires : tie.Need-go-requires
 go-requires c κs = search needs
 
 returns-5 : tie.Need-returns-5
-returns-5 c = λ words e. turns-on _ _ _ _ _ (c .before .before .before .before .before .before .before .before .before .pre .0) words _ (more-goal _ (search needs) (search needs)) _ _ _ _ _ _ _ _ _ (c .go .ensures)
-    (λ counts. record { does = equal-goes counts _ _ (search needs) (search needs) e (λ z. c .before .before .before .before .before .before .if1 .left (c .before .before .before .before .before .before .before .token .ensures .0 ∙ z)) (omega arith) (search needs) (c .before .before .before .if4 .left); slight = search needs })
+returns-5 c =
+    let pre = c .before .before .before .before .before .before .before .before .before .pre in
+    let if1 = c .before .before .before .before .before .before .if1 in
+    let token = c .before .before .before .before .before .before .before .token in
+    let if4 = c .before .before .before .if4 in
+    λ words e. turns-on _ _ _ _ _ (pre .0) words _ (more-goal _ (search needs) (search needs)) _ _ _ _ _ _ _ _ _ (c .go .ensures)
+    (λ counts. record {
+      does = equal-goes counts _ _ (search needs) (search needs) e (λ z. if1 .left (token .ensures .0 ∙ z)) (omega arith) (search needs) (if4 .left);
+      slight = search needs;
+    })
 
 pub behind-expression-spec : {M : Type 1} → statement M
 behind-expression-spec =

@@ -18,15 +18,27 @@ add-t9 : tie.Need-add-t9
 add-t9 c = search needs
 
 returns : tie.Need-returns
-returns c = λ words e. turns-past _ _ _ _ _ (c .before .before .before .before .before .pre .0 .0) words _ (more-goal _ (search needs) (search needs)) _
-    (λ counts. record { does = dot-zero counts _ _ (search needs) (search needs) e (c .before .before .before .before .before .pre .1) (omega arith); slight = search needs })
+returns c =
+    let pre = c .before .before .before .before .before .pre in
+    λ words e. turns-past _ _ _ _ _ (pre .0 .0) words _ (more-goal _ (search needs) (search needs)) _
+    (λ counts. record {
+      does = dot-zero counts _ _ (search needs) (search needs) e (pre .1) (omega arith);
+      slight = search needs;
+    })
 
 add-t10 : tie.Need-add-t10
 add-t10 c = search needs
 
 returns-2 : tie.Need-returns-2
-returns-2 c = λ words e. turns-past _ _ _ _ _ (c .before .before .before .before .before .before .pre .0 .0) words _ (more-goal _ (search needs) (search needs)) _
-    (λ counts. record { does = dot-high counts _ _ (search needs) (search needs) e (c .before .before .before .before .before .before .pre .1) (λ z. c .before .before .if1 .left (c .before .before .before .token .ensures .0 ∙ z)) (omega arith); slight = search needs })
+returns-2 c =
+    let pre = c .before .before .before .before .before .before .pre in
+    let if1 = c .before .before .if1 in
+    let token = c .before .before .before .token in
+    λ words e. turns-past _ _ _ _ _ (pre .0 .0) words _ (more-goal _ (search needs) (search needs)) _
+    (λ counts. record {
+      does = dot-high counts _ _ (search needs) (search needs) e (pre .1) (λ z. if1 .left (token .ensures .0 ∙ z)) (omega arith);
+      slight = search needs;
+    })
 
 add-go : tie.Need-add-go
 add-go c = search needs
@@ -35,8 +47,16 @@ go-requires : tie.Need-go-requires
 go-requires c κs = search needs
 
 returns-3 : tie.Need-returns-3
-returns-3 c = λ words e. turns-on _ _ _ _ _ (c .before .before .before .before .before .before .before .before .before .pre .0 .0) words _ (more-goal _ (search needs) (search needs)) _ _ _ _ _ _ _ _ _ (c .go .ensures)
-    (λ counts. record { does = rw (c .before .before .before .before .before .before .token .ensures .0) (dot-tight counts _ _ (search needs) (search needs) e (c .before .before .before .before .before .before .before .before .before .pre .1) (λ z. c .before .before .before .before .before .if1 .left (c .before .before .before .before .before .before .token .ensures .0 ∙ z)) (omega arith) (search needs)); slight = search needs })
+returns-3 c =
+    let pre = c .before .before .before .before .before .before .before .before .before .pre in
+    let token = c .before .before .before .before .before .before .token in
+    let if1 = c .before .before .before .before .before .if1 in
+    λ words e. turns-on _ _ _ _ _ (pre .0 .0) words _ (more-goal _ (search needs) (search needs)) _ _ _ _ _ _ _ _ _ (c .go .ensures)
+    (λ counts. record {
+      does = rw (token .ensures .0) (dot-tight counts _ _ (search needs) (search needs) e (pre .1) (λ z. if1 .left (token .ensures .0 ∙ z))
+          (omega arith) (search needs));
+      slight = search needs;
+    })
 
 add-token-2 : tie.Need-add-token-2
 add-token-2 c = search needs
@@ -51,8 +71,16 @@ go-requires-2 : tie.Need-go-requires-2
 go-requires-2 c κs = search needs
 
 returns-4 : tie.Need-returns-4
-returns-4 c = λ words e. turns-on _ _ _ _ _ (c .before .before .before .before .before .before .before .before .before .before .before .before .pre .0 .0) words _ (more-goal _ (search needs) (search needs)) _ _ _ _ _ _ _ _ _ (c .go2 .ensures)
-    (λ counts. record { does = rw (c .before .before .before .before .before .before .before .before .before .token .ensures .0) (dot-writes counts _ _ (search needs) (search needs) e (c .before .before .before .before .before .before .before .before .before .before .before .before .pre .1) (λ z. c .before .before .before .before .before .before .before .before .if1 .left (c .before .before .before .before .before .before .before .before .before .token .ensures .0 ∙ z)) (omega arith) (search needs) (omega arith)); slight = search needs })
+returns-4 c =
+    let pre = c .before .before .before .before .before .before .before .before .before .before .before .before .pre in
+    let token = c .before .before .before .before .before .before .before .before .before .token in
+    let if1 = c .before .before .before .before .before .before .before .before .if1 in
+    λ words e. turns-on _ _ _ _ _ (pre .0 .0) words _ (more-goal _ (search needs) (search needs)) _ _ _ _ _ _ _ _ _ (c .go2 .ensures)
+    (λ counts. record {
+      does = rw (token .ensures .0) (dot-writes counts _ _ (search needs) (search needs) e (pre .1) (λ z. if1 .left (token .ensures .0 ∙ z))
+          (omega arith) (search needs) (omega arith));
+      slight = search needs;
+    })
 
 add-go-3 : tie.Need-add-go-3
 add-go-3 c = search needs
@@ -61,8 +89,21 @@ go-requires-3 : tie.Need-go-requires-3
 go-requires-3 c κs = search needs
 
 returns-5 : tie.Need-returns-5
-returns-5 c = λ words e. turns-on _ _ _ _ _ (c .before .before .before .before .before .before .before .before .before .before .before .before .pre .0 .0) words _ (more-goal _ (search needs) (search needs)) _ _ _ _ _ _ _ _ _ (c .go3 .ensures)
-    (λ counts. record { does = rw (c .before .before .before .before .before .before .before .before .before .token .ensures .0) (dot-reads counts _ _ (search needs) (search needs) e (c .before .before .before .before .before .before .before .before .before .before .before .before .pre .1) (λ z. c .before .before .before .before .before .before .before .before .if1 .left (c .before .before .before .before .before .before .before .before .before .token .ensures .0 ∙ z)) (omega arith) (search needs) (λ z. c .before .before .before .if4 .left (c .before .before .before .before .token2 .ensures .0 ∙ z))); slight = search needs })
+returns-5 c =
+    let t = c .before .before .before .before .before .before .before .before .before .token .ensures .0 in
+    let u = c .before .before .before .before .token2 .ensures .0 in
+    let p = c .before .before .before .before .before .before .before .before .if1 .left in
+    let h = c .before .before .before .before .before .before .before .if2 .left in
+    let q = c .before .before .before .if4 .left in
+    λ words e. turns-on _ _ _ _ _
+    (c .before .before .before .before .before .before .before .before .before .before .before .before .pre .0 .0) words _ (more-goal _
+    (search needs) (search needs)) _ _ _ _ _ _ _ _ _ (c .go3 .ensures)
+    (λ counts. record {
+      does = rw t (dot-reads counts _ _ (search needs) (search needs) e
+          (c .before .before .before .before .before .before .before .before .before .before .before .before .pre .1) (λ z. p (t ∙ z)) (omega arith)
+          (search needs) (λ z. q (u ∙ z)));
+      slight = search needs;
+    })
 
 pub dot-spec : {M : Type 1} → statement M
 dot-spec =

@@ -14,22 +14,40 @@ go-requires : tie.Need-go-requires
 go-requires c κs = search needs
 
 returns : tie.Need-returns
-returns c = λ tokens words e f. turns-on _ _ _ _ _ (c .before .before .before .before .pre .0) words _ refl _ _ _ _ _ _ _ _ _ (c .go .ensures)
-    (λ counts. f counts _ (record { does = λ gs vs n ts k. end-either _ _ (search needs) (search needs) gs vs n ts k (c .before .before .before .if1 .taken) (omega arith) (omega arith); slight = search needs }))
+returns c =
+    let pre = c .before .before .before .before .pre in
+    let if1 = c .before .before .before .if1 in
+    λ tokens words e f. turns-on _ _ _ _ _ (pre .0) words _ refl _ _ _ _ _ _ _ _ _ (c .go .ensures)
+    (λ counts. f counts _ (record {
+      does = λ gs vs n ts k. end-either _ _ (search needs) (search needs) gs vs n ts k (if1 .taken) (omega arith) (omega arith);
+      slight = search needs;
+    }))
 
 go-requires-2 : tie.Need-go-requires-2
 go-requires-2 c κs = search needs
 
 returns-2 : tie.Need-returns-2
-returns-2 c = λ tokens words e f. turns-on _ _ _ _ _ (c .before .before .before .before .before .pre .0) words _ refl _ _ _ _ _ _ _ _ _ (c .go2 .ensures)
-    (λ counts. f counts _ (record { does = λ gs vs n ts k. end-same _ _ (search needs) (search needs) gs vs n ts k (omega arith) (omega arith) (omega arith); slight = search needs }))
+returns-2 c =
+    let pre = c .before .before .before .before .before .pre in
+    λ tokens words e f. turns-on _ _ _ _ _ (pre .0) words _ refl _ _ _ _ _ _ _ _ _ (c .go2 .ensures)
+    (λ counts. f counts _ (record {
+      does = λ gs vs n ts k. end-same _ _ (search needs) (search needs) gs vs n ts k (omega arith) (omega arith) (omega arith);
+      slight = search needs;
+    }))
 
 stop-requires : tie.Need-stop-requires
 stop-requires c κs = search needs
 
 returns-3 : tie.Need-returns-3
-returns-3 c = λ tokens words e f. turns-stop _ _ _ _ _ (c .before .before .before .pre .0) words _ refl _ _ (c .stop .ensures)
-    (λ counts. f counts _ (record { does = λ gs vs n ts k. end-other _ _ (search needs) (search needs) gs vs n ts k (c .before .before .if1 .left) (λ z. c .before .if2 .left (z ∙ e)); slight = search needs }))
+returns-3 c =
+    let pre = c .before .before .before .pre in
+    let if1 = c .before .before .if1 in
+    let if2 = c .before .if2 in
+    λ tokens words e f. turns-stop _ _ _ _ _ (pre .0) words _ refl _ _ (c .stop .ensures)
+    (λ counts. f counts _ (record {
+      does = λ gs vs n ts k. end-other _ _ (search needs) (search needs) gs vs n ts k (if1 .left) (λ z. if2 .left (z ∙ e));
+      slight = search needs;
+    }))
 
 pub end-spec : {M : Type 1} → statement M
 end-spec =

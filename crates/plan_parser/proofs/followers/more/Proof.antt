@@ -18,23 +18,40 @@ behind-expression-requires : tie.Need-behind-expression-requires
 behind-expression-requires c κs = search needs
 
 returns : tie.Need-returns
-returns c = let q = sym (rw (c .before .before .before .before .before .last .ensures) at (c .before .before .before .before .sort .ensures)) in
-    c .behind-expression .ensures _ (q ∙ c .before .before .before .if1 .taken)
+returns c =
+    let last = c .before .before .before .before .before .last in
+    let sort = c .before .before .before .before .sort in
+    let if1 = c .before .before .before .if1 in
+    let q = sym (rw (last .ensures) at (sort .ensures)) in
+    c .behind-expression .ensures _ (q ∙ if1 .taken)
 
 behind-condition-requires : tie.Need-behind-condition-requires
 behind-condition-requires c κs = search needs
 
 returns-2 : tie.Need-returns-2
-returns-2 c = let q = sym (rw (c .before .before .before .before .before .before .last .ensures) at (c .before .before .before .before .before .sort .ensures)) in
-    c .behind-condition .ensures _ (q ∙ c .before .before .before .if2 .taken)
+returns-2 c =
+    let last = c .before .before .before .before .before .before .last in
+    let sort = c .before .before .before .before .before .sort in
+    let if2 = c .before .before .before .if2 in
+    let q = sym (rw (last .ensures) at (sort .ensures)) in
+    c .behind-condition .ensures _ (q ∙ if2 .taken)
 
 stop-requires : tie.Need-stop-requires
 stop-requires c κs = search needs
 
 returns-3 : tie.Need-returns-3
-returns-3 c = let q = sym (rw (c .before .before .before .before .last .ensures) at (c .before .before .before .sort .ensures)) in
-    turns-stop _ _ _ _ _ (c .before .before .before .before .before .before .before .pre .0) _ _ (more-goal _ (search needs) (search needs)) _ _ (c .stop .ensures)
-    (λ counts. record { does = more-stops counts _ _ (search needs) (search needs) (λ z. c .before .before .if1 .left (sym q ∙ z)) (λ z. c .before .if2 .left (sym q ∙ z)); slight = search needs })
+returns-3 c =
+    let last = c .before .before .before .before .last in
+    let sort = c .before .before .before .sort in
+    let pre = c .before .before .before .before .before .before .before .pre in
+    let if1 = c .before .before .if1 in
+    let if2 = c .before .if2 in
+    let q = sym (rw (last .ensures) at (sort .ensures)) in
+    turns-stop _ _ _ _ _ (pre .0) _ _ (more-goal _ (search needs) (search needs)) _ _ (c .stop .ensures)
+    (λ counts. record {
+      does = more-stops counts _ _ (search needs) (search needs) (λ z. if1 .left (sym q ∙ z)) (λ z. if2 .left (sym q ∙ z));
+      slight = search needs;
+    })
 
 pub more-spec : {M : Type 1} → statement M
 more-spec =

@@ -15,8 +15,13 @@ stop-requires : tie.Need-stop-requires
 stop-requires c κs = search needs
 
 returns : tie.Need-returns
-returns c = λ words. turns-stop _ _ _ _ _ (c .before .before .before .before .pre .0) words _ (operand-goal _ (search needs) (search needs)) _ _ (c .stop .ensures)
-    (λ counts. record { does = operand-low counts _ _ (search needs) (search needs) (omega arith); slight = search needs })
+returns c =
+    let pre = c .before .before .before .before .pre in
+    λ words. turns-stop _ _ _ _ _ (pre .0) words _ (operand-goal _ (search needs) (search needs)) _ _ (c .stop .ensures)
+    (λ counts. record {
+      does = operand-low counts _ _ (search needs) (search needs) (omega arith);
+      slight = search needs;
+    })
 
 add-go : tie.Need-add-go
 add-go c = search needs
@@ -28,15 +33,26 @@ go-requires : tie.Need-go-requires
 go-requires c κs = search needs
 
 returns-2 : tie.Need-returns-2
-returns-2 c = λ words. turns-on _ _ _ _ _ (c .before .before .before .before .before .before .before .pre .0) words _ (operand-goal _ (search needs) (search needs)) _ _ _ _ _ _ _ _ _ (c .go .ensures)
-    (λ counts. record { does = rw (c .before .before .before .before .before .token .ensures .0) (operand-variable counts _ _ (search needs) (search needs) (omega arith) (omega arith)); slight = search needs })
+returns-2 c =
+    let pre = c .before .before .before .before .before .before .before .pre in
+    let token = c .before .before .before .before .before .token in
+    λ words. turns-on _ _ _ _ _ (pre .0) words _ (operand-goal _ (search needs) (search needs)) _ _ _ _ _ _ _ _ _ (c .go .ensures)
+    (λ counts. record {
+      does = rw (token .ensures .0) (operand-variable counts _ _ (search needs) (search needs) (omega arith) (omega arith));
+      slight = search needs;
+    })
 
 stop-requires-2 : tie.Need-stop-requires-2
 stop-requires-2 c κs = search needs
 
 returns-3 : tie.Need-returns-3
-returns-3 c = λ words. turns-stop _ _ _ _ _ (c .before .before .before .before .before .before .pre .0) words _ (operand-goal _ (search needs) (search needs)) _ _ (c .stop2 .ensures)
-    (λ counts. record { does = operand-other counts _ _ (search needs) (search needs) (omega arith) (omega arith); slight = search needs })
+returns-3 c =
+    let pre = c .before .before .before .before .before .before .pre in
+    λ words. turns-stop _ _ _ _ _ (pre .0) words _ (operand-goal _ (search needs) (search needs)) _ _ (c .stop2 .ensures)
+    (λ counts. record {
+      does = operand-other counts _ _ (search needs) (search needs) (omega arith) (omega arith);
+      slight = search needs;
+    })
 
 word-requires : tie.Need-word-requires
 word-requires c κs = search needs
@@ -48,8 +64,15 @@ stop-requires-3 : tie.Need-stop-requires-3
 stop-requires-3 c κs = search needs
 
 returns-5 : tie.Need-returns-5
-returns-5 c = λ words. turns-stop _ _ _ _ _ (c .before .before .before .before .before .before .before .before .pre .0) words _ (operand-goal _ (search needs) (search needs)) _ _ (c .stop3 .ensures)
-    (λ counts. record { does = operand-high counts _ _ (search needs) (search needs) (omega arith) (λ z. c .before .if5 .taken (c .before .before .before .before .before .before .token .ensures .0 ∙ z)); slight = search needs })
+returns-5 c =
+    let pre = c .before .before .before .before .before .before .before .before .pre in
+    let if5 = c .before .if5 in
+    let token = c .before .before .before .before .before .before .token in
+    λ words. turns-stop _ _ _ _ _ (pre .0) words _ (operand-goal _ (search needs) (search needs)) _ _ (c .stop3 .ensures)
+    (λ counts. record {
+      does = operand-high counts _ _ (search needs) (search needs) (omega arith) (λ z. if5 .taken (token .ensures .0 ∙ z));
+      slight = search needs;
+    })
 
 sub-if6 : tie.Need-sub-if6
 sub-if6 c = search needs
@@ -61,8 +84,14 @@ go-requires-2 : tie.Need-go-requires-2
 go-requires-2 c κs = search needs
 
 returns-6 : tie.Need-returns-6
-returns-6 c = λ words. turns-on _ _ _ _ _ (c .before .before .before .before .before .before .before .before .before .before .before .pre .0) words _ (operand-goal _ (search needs) (search needs)) _ _ _ _ _ _ _ _ _ (c .go2 .ensures)
-    (λ counts. record { does = operand-group counts _ _ (search needs) (search needs) (omega arith) (c .before .before .before .if6 .taken); slight = search needs })
+returns-6 c =
+    let pre = c .before .before .before .before .before .before .before .before .before .before .before .pre in
+    let if6 = c .before .before .before .if6 in
+    λ words. turns-on _ _ _ _ _ (pre .0) words _ (operand-goal _ (search needs) (search needs)) _ _ _ _ _ _ _ _ _ (c .go2 .ensures)
+    (λ counts. record {
+      does = operand-group counts _ _ (search needs) (search needs) (omega arith) (if6 .taken);
+      slight = search needs;
+    })
 
 add-go-4 : tie.Need-add-go-4
 add-go-4 c = search needs
@@ -71,8 +100,14 @@ go-requires-3 : tie.Need-go-requires-3
 go-requires-3 c κs = search needs
 
 returns-7 : tie.Need-returns-7
-returns-7 c = λ words. turns-on _ _ _ _ _ (c .before .before .before .before .before .before .before .before .before .before .before .pre .0) words _ (operand-goal _ (search needs) (search needs)) _ _ _ _ _ _ _ _ _ (c .go3 .ensures)
-    (λ counts. record { does = operand-either counts _ _ (search needs) (search needs) (omega arith) (c .before .before .before .if6 .left); slight = search needs })
+returns-7 c =
+    let pre = c .before .before .before .before .before .before .before .before .before .before .before .pre in
+    let if6 = c .before .before .before .if6 in
+    λ words. turns-on _ _ _ _ _ (pre .0) words _ (operand-goal _ (search needs) (search needs)) _ _ _ _ _ _ _ _ _ (c .go3 .ensures)
+    (λ counts. record {
+      does = operand-either counts _ _ (search needs) (search needs) (omega arith) (if6 .left);
+      slight = search needs;
+    })
 
 pub operand-spec : {M : Type 1} → statement M
 operand-spec =

@@ -25,8 +25,15 @@ stop-requires : tie.Need-stop-requires
 stop-requires c κs = search needs
 
 returns : tie.Need-returns
-returns c = let f = (rw (c .before .before .before .before .before .before .before .pre .1 .0, c .before .before .before .before .token .ensures .0) at (c .before .before .before .form-of .ensures)) in
-    λ words. turns-stop _ _ _ _ _ (c .before .before .before .before .before .before .before .pre .0 .0) words _ (operand-goal _ (search needs) (search needs)) _ _ (c .stop .ensures) (λ counts. word-loose counts _ _ _ (search needs) (search needs) (omega arith) (omega arith) f _ (c .before .before .binding .ensures) (c .before .if1 .taken))
+returns c =
+    let pre = c .before .before .before .before .before .before .before .pre in
+    let token = c .before .before .before .before .token in
+    let form-of = c .before .before .before .form-of in
+    let binding = c .before .before .binding in
+    let if1 = c .before .if1 in
+    let f = (rw (pre .1 .0, token .ensures .0) at (form-of .ensures)) in
+    λ words. turns-stop _ _ _ _ _ (pre .0 .0) words _ (operand-goal _ (search needs) (search needs)) _ _ (c .stop .ensures)
+    (λ counts. word-loose counts _ _ _ (search needs) (search needs) (omega arith) (omega arith) f _ (binding .ensures) (if1 .taken))
 
 misplaced-requires : tie.Need-misplaced-requires
 misplaced-requires c κs = search needs
@@ -35,8 +42,17 @@ stop-requires-2 : tie.Need-stop-requires-2
 stop-requires-2 c κs = search needs
 
 returns-2 : tie.Need-returns-2
-returns-2 c = let f = (rw (c .before .before .before .before .before .before .before .before .before .pre .1 .0, c .before .before .before .before .before .before .token .ensures .0) at (c .before .before .before .before .before .form-of .ensures)) in
-    λ words. turns-stop _ _ _ _ _ (c .before .before .before .before .before .before .before .before .before .pre .0 .0) words _ (operand-goal _ (search needs) (search needs)) _ _ (c .stop2 .ensures) (λ counts. word-misplaced counts _ _ _ (search needs) (search needs) (omega arith) (omega arith) f _ (c .before .before .before .before .binding .ensures) (search needs) (rw (c .before .if2 .taken) at (c .before .before .misplaced .ensures)))
+returns-2 c =
+    let pre = c .before .before .before .before .before .before .before .before .before .pre in
+    let token = c .before .before .before .before .before .before .token in
+    let form-of = c .before .before .before .before .before .form-of in
+    let binding = c .before .before .before .before .binding in
+    let if2 = c .before .if2 in
+    let misplaced = c .before .before .misplaced in
+    let f = (rw (pre .1 .0, token .ensures .0) at (form-of .ensures)) in
+    λ words. turns-stop _ _ _ _ _ (pre .0 .0) words _ (operand-goal _ (search needs) (search needs)) _ _ (c .stop2 .ensures)
+    (λ counts. word-misplaced counts _ _ _ (search needs) (search needs) (omega arith) (omega arith) f _ (binding .ensures) (search needs) (rw
+    (if2 .taken) at (misplaced .ensures)))
 
 taken-by-requires : tie.Need-taken-by-requires
 taken-by-requires c κs = search needs
@@ -51,8 +67,13 @@ goals-requires : tie.Need-goals-requires
 goals-requires c κs = search needs
 
 go-requires : tie.Need-go-requires
-go-requires c κs = let d = c .before .before .before .before .before .before .before .before .before .before .before .before .before .pre .0 .0 in
-    let w = word-taken _ _ _ _ _ (c .before .before .before .before .before .before .before .before .before .form-of .ensures) (c .before .before .before .before .taken-by .ensures) (c .before .before .before .value-of .ensures) in
+go-requires c κs =
+    let pre = c .before .before .before .before .before .before .before .before .before .before .before .before .before .pre in
+    let form-of = c .before .before .before .before .before .before .before .before .before .form-of in
+    let taken-by = c .before .before .before .before .taken-by in
+    let value-of = c .before .before .before .value-of in
+    let d = pre .0 .0 in
+    let w = word-taken _ _ _ _ _ (form-of .ensures) (taken-by .ensures) (value-of .ensures) in
     record {
       goals-long = d .goals-long;
       values-long = d .values-long;
@@ -67,10 +88,21 @@ go-requires c κs = let d = c .before .before .before .before .before .before .b
     }
 
 returns-3 : tie.Need-returns-3
-returns-3 c = let f = (rw (c .before .before .before .before .before .before .before .before .before .before .before .before .before .before .pre .1 .0, c .before .before .before .before .before .before .before .before .before .before .before .token .ensures .0) at (c .before .before .before .before .before .before .before .before .before .before .form-of .ensures)) in
-    λ words. turns-on _ _ _ _ _ (c .before .before .before .before .before .before .before .before .before .before .before .before .before .before .pre .0 .0) words _ (operand-goal _ (search needs) (search needs)) _ _ _ _ _ _ _ _ _ (c .go .ensures)
-    (λ counts. word-goes counts _ _ _ (search needs) (search needs) (omega arith) (omega arith) f _ (c .before .before .before .before .before .before .before .before .before .binding .ensures) (search needs) (rw (c .before .before .before .before .before .before .if2 .left) at (c .before .before .before .before .before .before .before .misplaced .ensures)) _ _ _ (c .before .before .before .before .before .taken-by .ensures)
-    (c .before .before .before .before .value-of .ensures) (c .before .goals .ensures))
+returns-3 c =
+    let pre = c .before .before .before .before .before .before .before .before .before .before .before .before .before .before .pre in
+    let token = c .before .before .before .before .before .before .before .before .before .before .before .token in
+    let form-of = c .before .before .before .before .before .before .before .before .before .before .form-of in
+    let binding = c .before .before .before .before .before .before .before .before .before .binding in
+    let if2 = c .before .before .before .before .before .before .if2 in
+    let misplaced = c .before .before .before .before .before .before .before .misplaced in
+    let taken-by = c .before .before .before .before .before .taken-by in
+    let value-of = c .before .before .before .before .value-of in
+    let goals = c .before .goals in
+    let f = (rw (pre .1 .0, token .ensures .0) at (form-of .ensures)) in
+    λ words. turns-on _ _ _ _ _ (pre .0 .0) words _ (operand-goal _ (search needs) (search needs)) _ _ _ _ _ _ _ _ _ (c .go .ensures)
+    (λ counts. word-goes counts _ _ _ (search needs) (search needs) (omega arith) (omega arith) f _ (binding .ensures) (search needs) (rw
+    (if2 .left) at (misplaced .ensures)) _ _ _ (taken-by .ensures)
+    (value-of .ensures) (goals .ensures))
 
 pub word-spec : {M : Type 1} → statement M
 word-spec =

@@ -9,13 +9,20 @@ stop-requires : tie.Need-stop-requires
 stop-requires c κs = search needs
 
 returns : tie.Need-returns
-returns c = rw (c .stop .ensures) ((c .before .if1 .taken), refl, refl, refl, refl)
+returns c =
+    let if1 = c .before .if1 in
+    rw (c .stop .ensures) ((if1 .taken), refl, refl, refl, refl)
 
 make-on-requires : tie.Need-make-on-requires
-make-on-requires c κs = (c .before .before .before .before .pre .1 (omega (arith, c .before .before .if1 .left)), c .before .before .before .before .pre .0)
+make-on-requires c κs =
+    let pre = c .before .before .before .before .pre in
+    let if1 = c .before .before .if1 in
+    (pre .1 (omega (arith, if1 .left)), pre .0)
 
 returns-2 : tie.Need-returns-2
-returns-2 c = (omega (arith, c .before .before .before .if1 .left), c .make-on .ensures)
+returns-2 c =
+    let if1 = c .before .before .before .if1 in
+    (omega (arith, if1 .left), c .make-on .ensures)
 
 pub make-spec : {M : Type 1} → statement M
 make-spec =

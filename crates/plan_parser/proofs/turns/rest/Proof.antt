@@ -8,7 +8,9 @@ binder-requires : tie.Need-binder-requires
 binder-requires c κs = search needs
 
 returns : tie.Need-returns
-returns c = λ words st. c .binder .ensures words _ (λ i. omega (arith, c .before .before .before .before .shared-slice-known2 .given i)) st
+returns c =
+    let shared-slice-known2 = c .before .before .before .before .shared-slice-known2 in
+    λ words st. c .binder .ensures words _ (λ i. omega (arith, shared-slice-known2 .given i)) st
 
 procedure-requires : tie.Need-procedure-requires
 procedure-requires c κs = search needs
@@ -20,19 +22,25 @@ count-requires : tie.Need-count-requires
 count-requires c κs = search needs
 
 returns-3 : tie.Need-returns-3
-returns-3 c = λ words st. c .count .ensures words _ (λ i. omega (arith, c .before .before .before .before .before .before .shared-slice-known2 .given i)) st
+returns-3 c =
+    let shared-slice-known2 = c .before .before .before .before .before .before .shared-slice-known2 in
+    λ words st. c .count .ensures words _ (λ i. omega (arith, shared-slice-known2 .given i)) st
 
 fields-requires : tie.Need-fields-requires
 fields-requires c κs = search needs
 
 returns-4 : tie.Need-returns-4
-returns-4 c = λ words st. c .fields .ensures words _ (λ i. omega (arith, c .before .before .before .before .before .before .before .shared-slice-known2 .given i)) st
+returns-4 c =
+    let shared-slice-known2 = c .before .before .before .before .before .before .before .shared-slice-known2 in
+    λ words st. c .fields .ensures words _ (λ i. omega (arith, shared-slice-known2 .given i)) st
 
 further-requires : tie.Need-further-requires
 further-requires c κs = search needs
 
 returns-5 : tie.Need-returns-5
-returns-5 c = λ words st. c .further .ensures words _ (λ i. omega (arith, c .before .before .before .before .before .before .before .shared-slice-known2 .given i)) st
+returns-5 c =
+    let shared-slice-known2 = c .before .before .before .before .before .before .before .shared-slice-known2 in
+    λ words st. c .further .ensures words _ (λ i. omega (arith, shared-slice-known2 .given i)) st
 
 pub rest-spec : {M : Type 1} → statement M
 rest-spec =

@@ -13,34 +13,73 @@ goal-requires : tie.Need-goal-requires
 goal-requires c κs = search needs
 
 expect-requires : tie.Need-expect-requires
-expect-requires c κs = (ready _ (c .before .before .before .before .before .before .before .before .args .counts .now) _ _ _ _ (c .before .before .before .before .before .before .before .before .pre .0) (c .before .before .before .before .before .before .before .before .pre .1) _ (c .before .before .before .goal .ensures), code-sound _ (c .before .before .before .before .before .before .before .before .args .counts .now) _ _ _ _ (c .before .before .before .before .before .before .before .before .pre .0) (c .before .before .before .before .before .before .before .before .pre .1) _ (c .before .before .before .goal .ensures) .0 (c .before .before .if1 .taken))
+expect-requires c κs =
+    let args = c .before .before .before .before .before .before .before .before .args in
+    let pre = c .before .before .before .before .before .before .before .before .pre in
+    let goal = c .before .before .before .goal in
+    let if1 = c .before .before .if1 in (
+      ready _ (args .counts .now) _ _ _ _ (pre .0) (pre .1) _ (goal .ensures),
+      code-sound _ (args .counts .now) _ _ _ _ (pre .0) (pre .1) _ (goal .ensures) .0 (if1 .taken),
+    )
 
 returns : tie.Need-returns
-returns c = c .expect .ensures _ _ (λ i. omega (arith, c .before .before .before .before .before .before .before .shared-slice-known2 .given i)) (c .before .before .before .before .before .before .before .before .before .pre .0)
+returns c =
+    let shared-slice-known2 = c .before .before .before .before .before .before .before .shared-slice-known2 in
+    let pre = c .before .before .before .before .before .before .before .before .before .pre in
+    c .expect .ensures _ _ (λ i. omega (arith, shared-slice-known2 .given i)) (pre .0)
 
 make-requires : tie.Need-make-requires
-make-requires c κs = (c .before .before .before .before .before .before .before .before .before .pre .1 .some-goal, may-make _ (c .before .before .before .before .before .before .before .before .before .args .counts .now) _ _ _ _ (c .before .before .before .before .before .before .before .before .before .pre .0) (c .before .before .before .before .before .before .before .before .before .pre .1) (λ i. omega (arith, c .before .before .before .before .before .before .before .shared-slice-known2 .given i)) _ (c .before .before .before .before .goal .ensures) (search needs) (search needs))
+make-requires c κs =
+    let pre = c .before .before .before .before .before .before .before .before .before .pre in
+    let args = c .before .before .before .before .before .before .before .before .before .args in
+    let shared-slice-known2 = c .before .before .before .before .before .before .before .shared-slice-known2 in
+    let goal = c .before .before .before .before .goal in (
+      pre .1 .some-goal,
+      may-make _ (args .counts .now) _ _ _ _ (pre .0) (pre .1) (λ i. omega (arith, shared-slice-known2 .given i)) _
+          (goal .ensures) (search needs) (search needs),
+    )
 
 returns-2 : tie.Need-returns-2
-returns-2 c = turns-made _ _ _ _ _ _ (c .before .before .before .before .before .before .before .before .before .before .pre .0) (c .before .before .before .before .before .before .before .before .before .before .pre .1) (λ i. omega (arith, c .before .before .before .before .before .before .before .before .shared-slice-known2 .given i)) _ (c .before .before .before .before .before .goal .ensures) (search needs) (search needs) _ _ _ (c .make .ensures)
+returns-2 c =
+    let pre = c .before .before .before .before .before .before .before .before .before .before .pre in
+    let shared-slice-known2 = c .before .before .before .before .before .before .before .before .shared-slice-known2 in
+    let goal = c .before .before .before .before .before .goal in
+    turns-made _ _ _ _ _ _ (pre .0) (pre .1) (λ i. omega (arith, shared-slice-known2 .given i)) _ (goal .ensures) (search needs)
+    (search needs) _ _ _ (c .make .ensures)
 
 operand-requires : tie.Need-operand-requires
 operand-requires c κs = search needs
 
 returns-3 : tie.Need-returns-3
-returns-3 c = c .operand .ensures _ _ (λ i. omega (arith, c .before .before .before .before .before .before .before .before .before .shared-slice-known2 .given i)) (c .before .before .before .before .before .before .before .before .before .before .before .pre .0)
+returns-3 c =
+    let shared-slice-known2 = c .before .before .before .before .before .before .before .before .before .shared-slice-known2 in
+    let pre = c .before .before .before .before .before .before .before .before .before .before .before .pre in
+    c .operand .ensures _ _ (λ i. omega (arith, shared-slice-known2 .given i)) (pre .0)
 
 more-requires : tie.Need-more-requires
 more-requires c κs = search needs
 
 returns-4 : tie.Need-returns-4
-returns-4 c = c .more .ensures _ (λ i. omega (arith, c .before .before .before .before .before .before .before .before .before .before .before .shared-slice-known2 .given i)) (c .before .before .before .before .before .before .before .before .before .before .before .before .before .pre .0)
+returns-4 c =
+    let shared-slice-known2 = c .before .before .before .before .before .before .before .before .before .before .before .shared-slice-known2 in
+    let pre = c .before .before .before .before .before .before .before .before .before .before .before .before .before .pre in
+    c .more .ensures _ (λ i. omega (arith, shared-slice-known2 .given i)) (pre .0)
 
 rest-requires : tie.Need-rest-requires
-rest-requires c κs = (ready _ (c .before .before .before .before .before .before .before .before .before .before .before .args .counts .now) _ _ _ _ (c .before .before .before .before .before .before .before .before .before .before .before .pre .0) (c .before .before .before .before .before .before .before .before .before .before .before .pre .1) _ (c .before .before .before .before .before .before .goal .ensures), search needs, code-sound _ (c .before .before .before .before .before .before .before .before .before .before .before .args .counts .now) _ _ _ _ (c .before .before .before .before .before .before .before .before .before .before .before .pre .0) (c .before .before .before .before .before .before .before .before .before .before .before .pre .1) _ (c .before .before .before .before .before .before .goal .ensures) .1, small-entries _ (c .before .before .before .before .before .before .before .before .before .before .before .args .counts .now) _ _ _ _ (c .before .before .before .before .before .before .before .before .before .before .before .pre .0) (c .before .before .before .before .before .before .before .before .before .before .before .pre .1))
+rest-requires c κs =
+    let args = c .before .before .before .before .before .before .before .before .before .before .before .args in
+    let pre = c .before .before .before .before .before .before .before .before .before .before .before .pre in
+    let goal = c .before .before .before .before .before .before .goal in (
+      ready _ (args .counts .now) _ _ _ _ (pre .0) (pre .1) _ (goal .ensures),
+      search needs,
+      code-sound _ (args .counts .now) _ _ _ _ (pre .0) (pre .1) _ (goal .ensures) .1,
+      small-entries _ (args .counts .now) _ _ _ _ (pre .0) (pre .1),
+    )
 
 returns-5 : tie.Need-returns-5
-returns-5 c = c .rest .ensures _ (c .before .before .before .before .before .before .before .before .before .before .before .before .pre .0)
+returns-5 c =
+    let pre = c .before .before .before .before .before .before .before .before .before .before .before .before .pre in
+    c .rest .ensures _ (pre .0)
 
 pub take-spec : {M : Type 1} → statement M
 take-spec =
