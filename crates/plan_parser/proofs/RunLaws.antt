@@ -16,7 +16,7 @@ use Rattle.plan_parsing.specs.Plan.{procedureGoals}
 use Rattle.plan_parser_goals.specs.inner.Encoded.{goalOf, reasonOf, goalsOf, valueOf, valuesOf}
 use Rattle.plan_parser_goals.specs.inner.Moves.{IsTerm, IsBelow, Operands, Fits, onto}
 use Rattle.plan_parser.specs.inner.Stacks.{Stacked, Entries}
-use Rattle.plan_parser.specs.inner.Reading.{Sized, termsLeft, State, Going, shown, Kept, Turned, Resumes, Finished, Reads, Ran, readFrom, crowdedBy}
+use Rattle.plan_parser.specs.inner.Reading.{Sized, termsLeft, State, Going, NoneLeft, shown, Kept, Turned, Resumes, Finished, Reads, Ran, readFrom, crowdedBy}
 use Rattle.plan_parser.specs.declared.turns.Standing.{Standing}
 use Rattle.plan_parser.specs.declared.turns.Turn.{Turn}
 use Rattle.plan_parser.specs.declared.turns.Turn.the-variants.{On, Stop}
@@ -247,19 +247,19 @@ module _ (counts tokens goals₀ values₀ words₀ : List ℕ) (s₀ : Standing
     pub run-short : (eqb (s .left) 0 && ltb (length words) 1024) ≡ true → Ran tokens words₀ words (s₀ .left) R Full
     run-short e = full (ltb-true (length words) 1024 (and-second (eqb (s .left) 0) (ltb (length words) 1024) e))
 
-    module _ (k : s .values ≤ length values - 8) (f : (eqb (s .left) 0 && ltb (length words) 1024) ≡ false) where
-      none-left : s .left ≡ 0 → length words ≡ 1024
-      none-left e = go (decLt (length words) 1024)
-        where
-          go : Dec (length words < 1024) → length words ≡ 1024
-          go (yes h) = absurd (true≢false (rw (eq-eqb (s .left) 0 e, lt-ltb (length words) 1024 h) at f))
-          go (no h) = let m = b .state .sized .most-words in omega (arith, h)
+    pub none-left : (eqb (s .left) 0 && ltb (length words) 1024) ≡ false → NoneLeft words s
+    none-left f e = go (decLt (length words) 1024)
+      where
+        go : Dec (length words < 1024) → length words ≡ 1024
+        go (yes h) = absurd (true≢false (rw (eq-eqb (s .left) 0 e, lt-ltb (length words) 1024 h) at f))
+        go (no h) = let m = b .state .sized .most-words in omega (arith, h)
 
-      pub going : Going goals values words s
+    module _ (k : s .values ≤ length values - 8) where
+      pub going : Going goals values s
       going =
           let g = b .state .sized .some-goals in
           let v = b .state .sized .some-values in
-          record { some-goal = omega (arith, d); few-goals = omega arith; few-values = omega arith; none-left = none-left }
+          record { some-goal = omega (arith, d); few-goals = omega arith; few-values = omega arith }
 
       turn-same : (goals′ values′ words′ : List ℕ) (r : Turn) → Turned tokens counts goals values words goals′ values′ words′ s r → R ≡ resumed counts
           (b .resumes .steps - 1) (shown tokens goals′ values′ words′ r)

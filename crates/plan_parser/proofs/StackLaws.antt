@@ -191,7 +191,7 @@ unfolding valuesOf lastOf valueOf
 last-value words values zero = refl
 last-value words values (suc n) = let e : suc n - 1 ≡ n = omega arith in rw (ne-eqb (suc n) 0 (λ d. omega arith), e)
 
-last-small : (values : List ℕ) (n : ℕ) → Entries 0 values n → lastOf values n < 1024 + 4294967296
+pub last-small : (values : List ℕ) (n : ℕ) → Entries 0 values n → lastOf values n < 1024 + 4294967296
 unfolding lastOf
 last-small values zero h = omega arith
 last-small values (suc n) h = let e : suc n - 1 ≡ n = omega arith in rw (ne-eqb (suc n) 0 (λ d. omega arith), e) (h n (omega arith) .1)

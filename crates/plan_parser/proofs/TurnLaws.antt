@@ -15,12 +15,11 @@ use Rattle.plan_parser_goals.specs.inner.Encoded.{goalOf, reasonOf, goalsOf, va
 use Rattle.plan_parser_goals.specs.inner.Moves.{Operands, operandKinds, Fits, onto, done, Small, Calls, Sound}
 use Rattle.plan_parser.specs.inner.Stacks.{Entries, Stacked, Put, Looks}
 use Rattle.plan_parser.specs.inner.Making.{Makeable, Makes}
-use Rattle.plan_parser.specs.inner.Reading.{Sized, termsLeft, State, Going, Found, Room, Went, WentWith, shown, Nearer, Kept, Turned}
+use Rattle.plan_parser.specs.inner.Reading.{Sized, termsLeft, State, Going, NoneLeft, Found, Went, WentWith, shown, Nearer, Kept, Turned}
 use Rattle.plan_parser.specs.declared.turns.Standing.{Standing}
 use Rattle.plan_parser.specs.declared.turns.Turn.the-variants.{On}
 use Rattle.plan_parser.specs.declared.turns.Turn.the-variants as turn
-use Rattle.plan_parser_goals.specs.declared.Move.{Move}
-use Rattle.plan_parser_goals.specs.declared.Move.the-variants.{Go, Make, Stop}
+use Rattle.plan_parser_goals.specs.inner.Moves.{Move, Go, Make, Stop}
 use Rattle.plan_parser.proofs.FitLaws.{FitsAfter, step-fits, fits-sound}
 
 -- ---- numbers
@@ -80,7 +79,7 @@ unfolding onto
 fits-onto gs (go gs′ vs m ts) gs″ vs″ n ts″ e f = let p : gs″ ≡ gs′ ++ gs = cc in let q : vs″ ≡ vs = cc in rw (p, q) f
 fits-onto gs (stop r ts) gs″ vs″ n ts″ e f = let z : _≡_ {A = ℕ} 0 1 = cc in absurd (omega arith)
 
-module _ (tokens counts goals values words : List ℕ) (s : Standing) (st : State tokens goals values words s) (gg : Going goals values words s) where
+module _ (tokens counts goals values words : List ℕ) (s : Standing) (st : State tokens goals values words s) (gg : Going goals values s) where
   abbrev top : ℕ
   top = s .goals - 1
 
@@ -111,26 +110,6 @@ module _ (tokens counts goals values words : List ℕ) (s : Standing) (st : Stat
   -- ---- a move
 
   module _ (taken kept next digits popped value : ℕ) (f : Found tokens counts goals values words s (Go taken kept next digits popped value)) where
-    pub room : Room goals values s taken kept next popped value
-    room =
-        let m = f .calls .slight in
-        let i = st .inside in
-        let k = st .tokens-few in
-        record {
-          few-goals = gg .few-goals;
-          few-values = gg .few-values;
-          some-goal = gg .some-goal;
-          most-goals = st .sized .most-goals;
-          most-values = st .sized .most-values;
-          at-small = omega arith;
-          taken-small = let t = m .to-third in omega arith;
-          kept-small = m .kept-small;
-          next-small = m .next-small;
-          popped-small = m .popped-small;
-          value-large = m .value-large;
-          value-small = m .value-small;
-        }
-
     module _ (goals′ values′ : List ℕ) (s′ : Standing) (w : Went goals values s taken kept next digits popped value goals′ values′ s′) where
       went-says : shown tokens goals′ values′ words (On s′) ≡ onto below (step counts (goalOf code) held terms ahead)
       unfolding shown done
@@ -190,11 +169,11 @@ module _ (tokens counts goals values words : List ℕ) (s : Standing) (st : Stat
     make-does : done (Make k) below held terms ahead ≡ onto below (step counts (goalOf code) held terms ahead)
     make-does = f .calls .does below held terms ahead fit (f .looks .seen)
 
-    pub turned-none : s .left ≡ 0 → Turned tokens counts goals values words goals values words s (turn.Stop 1000 (s .at))
+    pub turned-none : NoneLeft words s → s .left ≡ 0 → Turned tokens counts goals values words goals values words s (turn.Stop 1000 (s .at))
     unfolding shown done reasonOf
-    turned-none e =
+    turned-none none e =
         record {
-          says = let l = gg .none-left e in sym (rw (eq-eqb terms 0 (omega arith)) at (sym make-does));
+          says = let l = none e in sym (rw (eq-eqb terms 0 (omega arith)) at (sym make-does));
           next = tt;
           kept = record { ordered = st .ordered; long = refl; terms-stay = λ i h. refl };
           goals-stay = refl;

@@ -1,4 +1,8 @@
 // An expression's tokens into terms, by a stack of goals.
+mod arguments; // arguments.rt: the turns of a token, a slot, a procedure, its arguments, and fields
+mod followers; // followers.rt: the turn behind an operand
+mod forms; // forms.rt: the forms that begin with a word
+mod operands; // operands.rt: the turn of an operand
 mod stacks; // stacks.rt: the arrays of goals and of values
 mod terms; // terms.rt: terms made of values
 pub mod turns; // turns.rt: the goal on top, done

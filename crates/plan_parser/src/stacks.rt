@@ -1,6 +1,5 @@
 // The arrays of goals and of values.
 use byte_numbers::wide;
-use plan_parser_goals::Sight;
 ghost use mathlib.Core.Path.{_≡_};
 ghost use mathlib.Core.Bool.{cond};
 ghost use Prim.Native.Nat.{_<_, _≤_, _+_, _-_, _*_, _/_, _%_};
@@ -9,7 +8,7 @@ ghost use lib.ListN.{length, getD};
 ghost use mathlib.Core.List.{_++_};
 ghost use Rattle.plan_parsing.specs.Plan.{procedureGoals};
 ghost use Rattle.plan_parser_goals.specs.inner.Encoded.{valueOf, valueSort, stacked, unpacked};
-ghost use Rattle.plan_parser.specs.inner.Stacks.{Stacked, Entries, Put, Looks, lastOf, operandAt};
+ghost use Rattle.plan_parser.specs.inner.Stacks.{Stacked, Put, lastOf, operandAt};
 
 // A goal on the others; 0 is none.
 fn stack(goals: &mut [u16], top: usize, code: usize) -> usize
@@ -45,6 +44,20 @@ pub fn stack_all(goals: &mut [u16], top: usize, kept: usize, next: usize, digits
     let first = stack(&mut *goals, top, kept);
     let second = stack(&mut *goals, first, next);
     stack_digits(&mut *goals, second, digits)
+}
+
+fn half(code: u16) -> usize
+    ensures { λ r. ⌜ (r ≡ code) × (r < 65536) ⌝ }
+{
+    code as usize
+}
+
+// The goal at a place.
+pub fn goal(goals: &[u16], place: usize) -> usize
+    requires { ⌜ place < length (now goals) ⌝ }
+    ensures { λ r. ⌜ r ≡ getD (now (goals .entry)) place 0 ⌝ }
+{
+    half(goals[place])
 }
 
 // The goals of the procedure of this number.
@@ -86,7 +99,7 @@ pub fn put(values: &mut [usize], top: usize, popped: usize, value: usize) -> usi
 }
 
 // The token at a place, or the end of the text.
-fn token(tokens: &[u8], at: usize) -> usize
+pub fn token(tokens: &[u8], at: usize) -> usize
     ensures { λ r. ⌜ (r ≡ getD (now (tokens .entry)) at 69) × (69 ≤ r + 69 * (length (now (tokens .entry)) - at)) ⌝ }
 {
     if tokens.len() <= at {
@@ -96,7 +109,7 @@ fn token(tokens: &[u8], at: usize) -> usize
 }
 
 // The sort of a value.
-fn sort(words: &[usize], value: usize) -> usize
+pub fn sort(words: &[usize], value: usize) -> usize
     ensures { λ r. ⌜ r ≡ valueSort (valueOf (now (words .entry)) value) ⌝ }
 {
     if 1023 < value {
@@ -116,7 +129,7 @@ fn sort(words: &[usize], value: usize) -> usize
 }
 
 // The value that was read last.
-fn last(values: &[usize], top: usize) -> usize
+pub fn last(values: &[usize], top: usize) -> usize
     requires { ⌜ top ≤ length (now values) ⌝ }
     ensures { λ r. ⌜ r ≡ lastOf (now (values .entry)) top ⌝ }
 {
@@ -127,28 +140,13 @@ fn last(values: &[usize], top: usize) -> usize
 }
 
 // The number that a value is; a term is taken for 0.
-fn number(value: usize) -> usize
+pub fn number(value: usize) -> usize
     ensures { λ r. ⌜ r ≡ cond (ltb value 1024) 0 (value - 1024) ⌝ }
 {
     if value < 1024 {
         return 0;
     }
     value - 1024
-}
-
-// What a step sees.
-pub fn look(tokens: &[u8], at: usize, words: &[usize], values: &[usize], top: usize) -> Sight
-    requires { ⌜ (top ≤ length (now values)) × (at ≤ 16384) × Entries 0 (now values) top ⌝ }
-    ensures { λ r. ⌜ Looks (now (tokens .entry)) at (now (words .entry)) (now (values .entry)) top r ⌝ }
-{
-    let value = last(values, top);
-    Sight {
-        first: token(tokens, at),
-        second: token(tokens, at + 1),
-        third: token(tokens, at + 2),
-        sort: sort(words, value),
-        number: number(value),
-    }
 }
 
 // The number of an operand that is so far down, from 1; 0 is none.

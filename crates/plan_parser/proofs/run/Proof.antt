@@ -1,5 +1,5 @@
 -- `run` meets its contract. Assumes nothing.
-use Rattle.plan_parser.proofs.RunLaws.{Before, begins, last-ends, run-ends, run-many, run-full, run-short, going, run-on, run-stops}
+use Rattle.plan_parser.proofs.RunLaws.{Before, begins, last-ends, run-ends, run-many, run-full, run-short, none-left, going, run-on, run-stops}
 use Prim.Native.Nat.{_+_, _-_, _*_}
 use native.Mathlib.Omega.{arith}
 use mathlib.Core.Path.{sym, _∙_}
@@ -87,7 +87,8 @@ returns-4 c = run-short _ _ _ _ _ _ _ _ _ _ (c .before .before .before .before .
 take-requires : tie.Need-take-requires Inv-loop μ-loop
 take-requires c κs = (
   c .before .before .before .before .before .before .before .before .before .before .before .before .loop .inv .state,
-  going _ _ _ _ _ _ _ _ _ _ (c .before .before .before .before .before .before .before .before .before .before .before .before .loop .inv) (c .before .before .before .before .before .before .before .before .before .before .if1 .left) (c .before .before .before .before .before .before .before .before .if2 .left) (c .before .before .before .before .before .before .if3 .left) (sym (c .before .before .before .before .is-full .ensures) ∙ c .before .before .before .if4 .left),
+  going _ _ _ _ _ _ _ _ _ _ (c .before .before .before .before .before .before .before .before .before .before .before .before .loop .inv) (c .before .before .before .before .before .before .before .before .before .before .if1 .left) (c .before .before .before .before .before .before .before .before .if2 .left) (c .before .before .before .before .before .before .if3 .left),
+  none-left _ _ _ _ _ _ _ _ _ _ (c .before .before .before .before .before .before .before .before .before .before .before .before .loop .inv) (c .before .before .before .before .before .before .before .before .before .before .if1 .left) (c .before .before .before .before .before .before .before .before .if2 .left) (sym (c .before .before .before .before .is-full .ensures) ∙ c .before .before .before .if4 .left),
 )
 
 enum-known-next : tie.Need-enum-known-next Inv-loop μ-loop
@@ -97,7 +98,7 @@ loop-less : tie.Need-loop-less Inv-loop μ-loop
 loop-less c = let t = rw (c .before .next .given .1) at (c .before .before .before .before .before .before .before .before .before .take .ensures) in t .next .less
 
 loop-again : tie.Need-loop-again Inv-loop μ-loop
-loop-again c = run-on _ _ _ _ _ _ _ _ _ _ (c .before .before .before .before .before .before .before .before .before .before .before .before .before .before .before .before .before .before .before .before .before .before .loop .inv) (c .before .before .before .before .before .before .before .before .before .before .before .before .before .before .before .before .before .before .before .before .if1 .left) (c .before .before .before .before .before .before .before .before .before .before .before .before .before .before .before .before .before .before .if2 .left) (c .before .before .before .before .before .before .before .before .before .before .before .before .before .before .before .before .if3 .left) (sym (c .before .before .before .before .before .before .before .before .before .before .before .before .before .before .is-full .ensures) ∙ c .before .before .before .before .before .before .before .before .before .before .before .before .before .if4 .left) _ _ _ _
+loop-again c = run-on _ _ _ _ _ _ _ _ _ _ (c .before .before .before .before .before .before .before .before .before .before .before .before .before .before .before .before .before .before .before .before .before .before .loop .inv) (c .before .before .before .before .before .before .before .before .before .before .before .before .before .before .before .before .before .before .before .before .if1 .left) (c .before .before .before .before .before .before .before .before .before .before .before .before .before .before .before .before .before .before .if2 .left) (c .before .before .before .before .before .before .before .before .before .before .before .before .before .before .before .before .if3 .left) _ _ _ _
     (rw (c .before .next .given .1) at (c .before .before .before .before .before .before .before .before .before .take .ensures))
 
 enum-known-reason : tie.Need-enum-known-reason Inv-loop μ-loop
@@ -113,7 +114,7 @@ same-length-15 : tie.Need-same-length-15 Inv-loop μ-loop
 same-length-15 c = (rw (c .before .reason .given .1) at (c .before .before .before .before .before .before .before .before .before .take .ensures)) .kept .long ∙ c .before .before .before .before .before .before .before .before .before .before .before .before .before .before .before .before .before .before .before .before .before .before .loop .inv .kept .long
 
 returns-5 : tie.Need-returns-5 Inv-loop μ-loop
-returns-5 c = run-stops _ _ _ _ _ _ _ _ _ _ (c .before .before .before .before .before .before .before .before .before .before .before .before .before .before .before .before .before .before .before .before .before .before .loop .inv) (c .before .before .before .before .before .before .before .before .before .before .before .before .before .before .before .before .before .before .before .before .if1 .left) (c .before .before .before .before .before .before .before .before .before .before .before .before .before .before .before .before .before .before .if2 .left) (c .before .before .before .before .before .before .before .before .before .before .before .before .before .before .before .before .if3 .left) (sym (c .before .before .before .before .before .before .before .before .before .before .before .before .before .before .is-full .ensures) ∙ c .before .before .before .before .before .before .before .before .before .before .before .before .before .if4 .left) _ _ _ _ _
+returns-5 c = run-stops _ _ _ _ _ _ _ _ _ _ (c .before .before .before .before .before .before .before .before .before .before .before .before .before .before .before .before .before .before .before .before .before .before .loop .inv) (c .before .before .before .before .before .before .before .before .before .before .before .before .before .before .before .before .before .before .before .before .if1 .left) (c .before .before .before .before .before .before .before .before .before .before .before .before .before .before .before .before .before .before .if2 .left) (c .before .before .before .before .before .before .before .before .before .before .before .before .before .before .before .before .if3 .left) _ _ _ _ _
     (rw (c .before .reason .given .1) at (c .before .before .before .before .before .before .before .before .before .take .ensures))
 
 pub run-spec : {M : Type 1} → statement M

@@ -11,10 +11,9 @@ use Rattle.plan_parsing.specs.Parser as definition
 use Rattle.plan_parsing.specs.Parser.{Step, go, stop, step, parseBy, parse}
 use Rattle.plan_parser_goals.specs.inner.Encoded.{goalOf, reasonOf, goalsOf, stacked, unpacked, valuesOf}
 use Rattle.plan_parser_goals.specs.inner.Moves.{Fits, onto, Calls}
+use Rattle.plan_parser_goals.specs.inner.Moves.{Sight, Move}
 use Rattle.plan_parser.specs.inner.Stacks.{Stacked, Entries, Put, Looks}
 use Rattle.plan_parser.specs.inner.Making.{Makes}
-use Rattle.plan_parser_goals.specs.declared.Sight.{Sight}
-use Rattle.plan_parser_goals.specs.declared.Move.{Move}
 use Rattle.plan_parser.specs.declared.turns.Standing.{Standing}
 use Rattle.plan_parser.specs.declared.turns.Turn.{Turn}
 use Rattle.plan_parser.specs.declared.turns.Turn.the-variants.{On, Stop}
@@ -47,12 +46,15 @@ pub record State (tokens goals values words : List ℕ) (s : Standing) : Type 0 
   pub entries : Entries (s .left) values (s .values)
   pub fits : Fits (goalsOf goals (s .goals)) (valuesOf words values (s .values))
 
--- there is a goal, goals and values are not too many, and no term is left only where none can be made
-pub record Going (goals values words : List ℕ) (s : Standing) : Type 0 where
+-- there is a goal, and goals and values are not too many
+pub record Going (goals values : List ℕ) (s : Standing) : Type 0 where
   pub some-goal : 0 < s .goals
   pub few-goals : s .goals + 8 ≤ length goals
   pub few-values : s .values + 8 ≤ length values
-  pub none-left : s .left ≡ 0 → length words ≡ 1024
+
+-- no term is left only where none can be made
+abbrev pub NoneLeft : List ℕ → Standing → Type 0
+NoneLeft words s = s .left ≡ 0 → length words ≡ 1024
 
 -- a move of the goal on top, by what a step sees
 pub record Found (tokens counts goals values words : List ℕ) (s : Standing) (m : Move) : Type 0 where
@@ -63,9 +65,7 @@ pub record Found (tokens counts goals values words : List ℕ) (s : Standing) (m
 
 -- there is room for what a move does
 pub record Room (goals values : List ℕ) (s : Standing) (taken kept next popped value : ℕ) : Type 0 where
-  pub few-goals : s .goals + 8 ≤ length goals
-  pub few-values : s .values + 8 ≤ length values
-  pub some-goal : 0 < s .goals
+  pub going : Going goals values s
   pub most-goals : length goals ≤ 8408
   pub most-values : length values ≤ 3108
   pub at-small : s .at ≤ 16384

@@ -8,7 +8,7 @@ use lib.ListN.{length, getD, drop}
 use Rattle.plan_parsing.specs.Goals.{Goal}
 use Rattle.plan_parser_goals.specs.inner.Encoded.{goalsOf, valuesOf, stacked, unpacked}
 use Rattle.plan_parser_goals.specs.inner.Moves.{Seen, pushed}
-use Rattle.plan_parser_goals.specs.declared.Sight.{Sight}
+use Rattle.plan_parser_goals.specs.inner.Moves.{Sight}
 
 -- goals on those of an array, of which so many were there
 pub record Stacked (f : List Goal → List Goal) (goals : List ℕ) (n : ℕ) (goals′ : List ℕ) (n′ : ℕ) : Type 0 where
