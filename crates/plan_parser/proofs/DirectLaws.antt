@@ -132,7 +132,8 @@ module _ (tokens counts goals values words : List ℕ) (s : Standing) (st : Stat
 
   pub turns-made : NoneLeft words s → (words′ values′ : List ℕ) (r : Turn) → MadeOr words values s (code - 128) words′ values′ r
       → Turned tokens counts goals values words goals values′ words′ s r
-  turns-made none words′ values′ (On s′) m = turned-made tokens counts goals values words s st gg (code - 128) make-found (λ z. let h = m .0 in omega arith) words′
+  turns-made none words′ values′ (On s′) m = turned-made tokens counts goals values words s st gg (code - 128) make-found (λ z. let h = m
+      .0 in omega arith) words′
       values′ s′ (m .1)
   turns-made none words′ values′ (turn.Stop reason at) m =
       rw (m .1, m .2, m .3, m .4) (turned-none tokens counts goals values words s st gg (code - 128) make-found none (m .0))

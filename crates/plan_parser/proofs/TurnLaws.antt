@@ -120,7 +120,8 @@ module _ (tokens counts goals values words : List ℕ) (s : Standing) (st : Stat
       went-fits : Fits (goalsOf goals′ (s′ .goals)) (valuesOf words values′ (s′ .values))
       unfolding shown
       went-fits =
-          fits-onto below (step counts (goalOf code) held terms ahead) (goalsOf goals′ (s′ .goals)) (valuesOf words values′ (s′ .values)) (termsLeft words (s′ .left))
+          fits-onto below (step counts (goalOf code) held terms ahead) (goalsOf goals′ (s′ .goals)) (valuesOf words values′ (s′ .values)) (termsLeft words
+          (s′ .left))
           (drop (s′ .at) tokens) went-says
           (step-fits below counts (f .counts-small) terms ahead (goalOf code) held fit)
 
@@ -149,7 +150,8 @@ module _ (tokens counts goals values words : List ℕ) (s : Standing) (st : Stat
                         goals-few = let l = w .on-goals .long in let a = w .few in let b = gg .few-goals in let d = gg .some-goal in omega arith;
                         values-few = let l = w .on-values .long in let a = w .on-values .few in let b = gg .few-values in omega arith;
                         left-few = rw (w .left-is) (st .left-few);
-                        entries = rw (w .left-is) (w .on-values .entries (s .left) (let f = st .left-few in let m = st .sized .most-words in omega arith) (st .entries));
+                        entries = rw (w .left-is) (w .on-values .entries (s .left) (let f = st .left-few in let m = st .sized .most-words in omega arith)
+                            (st .entries));
                         fits = went-fits;
                       };
                   less = went-bounds .1;
@@ -206,7 +208,8 @@ module _ (tokens counts goals values words : List ℕ) (s : Standing) (st : Stat
       made-fits : Fits (goalsOf goals (s′ .goals)) (valuesOf words′ values′ (s′ .values))
       unfolding shown
       made-fits =
-          fits-onto below (step counts (goalOf code) held terms ahead) (goalsOf goals (s′ .goals)) (valuesOf words′ values′ (s′ .values)) (termsLeft words′ (s′ .left))
+          fits-onto below (step counts (goalOf code) held terms ahead) (goalsOf goals (s′ .goals)) (valuesOf words′ values′ (s′ .values))
+          (termsLeft words′ (s′ .left))
           (drop (s′ .at) tokens) made-says
           (step-fits below counts (f .counts-small) terms ahead (goalOf code) held fit)
 

@@ -30,7 +30,8 @@ resultOf counts ts p at left = parse counts (procedureGoals p) (number 0 ∷ [])
 
 -- reading has stopped
 pub stop-faulty : {ts counts : List ℕ} {v m : ℕ} {words roots params words′ : List ℕ} {p at left reason stop : ℕ} {r : Parsed}
-    → Going ts v m words roots params p at left → p < 32 → counts ≡ countsOf ts → parser.Ran ts words words′ left (resultOf counts ts p at (termsLeft words left)) r
+    → Going ts v m words roots params p at left → p < 32 → counts ≡ countsOf ts → parser.Ran ts words words′ left (resultOf counts ts p at
+    (termsLeft words left)) r
     → r ≡ Stopped reason stop
     → Faulty ts 0 reason stop
 unfolding faultOf
@@ -42,7 +43,8 @@ stop-faulty {ts} {counts} {words = words} {words′ = words′} {p} {at} {left} 
         → readPlan ts ≡ fault (Fault.reading (reasonOf reason)) (drop stop ts)
     go (definition.parsed vs n rest) z x = absurd x
     go (definition.stopped s rest) z x =
-        stops g h s rest (ap (λ (cs : List ℕ). resultOf cs ts p at (termsLeft words left)) (sym e) ∙ z) ∙ ap (λ (y : definition.Reason). fault (Fault.reading y) rest) (x .0)
+        stops g h s rest (ap (λ (cs : List ℕ). resultOf cs ts p at (termsLeft words left)) (sym e) ∙ z) ∙ ap (λ (y : definition.Reason). fault
+        (Fault.reading y) rest) (x .0)
         ∙ ap (fault (Fault.reading (reasonOf reason))) (sym (x .1))
 
 -- the arrays are too short

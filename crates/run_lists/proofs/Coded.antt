@@ -77,7 +77,8 @@ module _ (ws : List ℕ) (t : ℕ) where
   unfolding valuedAt codeAt valueOf
   next-valued e h = by (eqb (tagOf word) 16) (ltb (tagOf operand) 2) refl h
     where
-      by : (b d : Bool) → ltb (tagOf operand) 2 ≡ d → cond b d false ≡ true → cond b (valueBy e operand) 32 ≡ valueIn e (cond (cond b d false) (codeBy operand) 40)
+      by : (b d : Bool) → ltb (tagOf operand) 2 ≡ d → cond b d false ≡ true → cond b (valueBy e operand) 32 ≡ valueIn e (cond (cond b d false)
+          (codeBy operand) 40)
       by true true q k = by-code e operand (ltb-true _ _ q)
       by true false q k = absurd (true≢false (sym k))
       by false d q k = absurd (true≢false (sym k))

@@ -11,7 +11,8 @@ use Rattle.run_lists.specs.inner.Lists.{valueIn, codeAt, nextAt, oneAt, 
 -- a digit d of b bits above a number of i bits, and x above both
 pub above : (a d x b i : ℕ) → a + (d + x * 2 ^ b) * 2 ^ i ≡ a + d * 2 ^ i + x * 2 ^ (b + i)
 above a d x b i =
-    ap (λ (n : ℕ). a + n) (add-mul d (x * 2 ^ b) (2 ^ i) ∙ ap (λ (n : ℕ). d * 2 ^ i + n) (mul-assoc x (2 ^ b) (2 ^ i) ∙ ap (λ (n : ℕ). x * n) (sym (pow-add 2 b i))))
+    ap (λ (n : ℕ). a + n) (add-mul d (x * 2 ^ b) (2 ^ i) ∙ ap (λ (n : ℕ). d * 2 ^ i + n) (mul-assoc x (2 ^ b) (2 ^ i) ∙ ap (λ (n : ℕ). x * n) (sym
+    (pow-add 2 b i))))
     ∙ sym (add-assoc a (d * 2 ^ i) (x * 2 ^ (b + i)))
 
 above-lt : (a d b i : ℕ) → a < 2 ^ i → d < 2 ^ b → a + d * 2 ^ i < 2 ^ (b + i)
@@ -60,7 +61,8 @@ module _ (ws : List ℕ) (t p : ℕ) (h : p < 8) where
   more : 8 - p ≡ suc (8 - (p + 1))
   more = omega (arith, h)
 
-  pub code-more : (a x : ℕ) → a + codeAt ws t * 2 ^ (p * 6) + codesFrom (8 - (p + 1)) ws (nextAt ws t) x * 2 ^ ((p + 1) * 6) ≡ a + codesFrom (8 - p) ws t x * 2 ^ (p * 6)
+  pub code-more : (a x : ℕ) → a + codeAt ws t * 2 ^ (p * 6) + codesFrom (8 - (p + 1)) ws (nextAt ws t) x * 2 ^ ((p + 1) * 6) ≡ a + codesFrom
+      (8 - p) ws t x * 2 ^ (p * 6)
   unfolding codesFrom
   code-more a x = rw (sixes p, more) (sym (above a (codeAt ws t) (codesFrom (8 - (p + 1)) ws (nextAt ws t) x) 6 (p * 6)))
 

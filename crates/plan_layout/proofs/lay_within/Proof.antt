@@ -58,7 +58,11 @@ shared-slice-read-token : tie.Need-shared-slice-read-token Inv-loop μ-loop
 shared-slice-read-token c = search needs
 
 width-requires : tie.Need-width-requires Inv-loop μ-loop
-width-requires c κs = (c .before .before .before .before .before .before .before .pre .0 .0, c .before .before .before .before .before .before .before .pre .0 .2 (c .before .before .before .loop .index))
+width-requires c κs = (
+  c .before .before .before .before .before .before .before .pre .0 .0,
+  c .before .before .before .before .before .before .before
+      .pre .0 .2 (c .before .before .before .loop .index),
+)
 
 gap-before-requires : tie.Need-gap-before-requires Inv-loop μ-loop
 gap-before-requires c κs =
@@ -70,8 +74,20 @@ gap-before-requires c κs =
 put-wide-requires : tie.Need-put-wide-requires Inv-loop μ-loop
 put-wide-requires c κs =
     let s = c .before .before .before .before .before .before .before .before .before .before in
-    let l = c .before .before .before .before .before .before .loop in
-    (s .pre .0 .0, (s .pre .0 .2 (l .index), c .before .before .width .ensures, c .before .gap-before .ensures .few, omega (arith, l .inv .1, c .before .before .before .before .if1 .left)))
+    let l = c .before .before .before .before .before .before .loop in (
+      s .pre .0 .0,
+      (
+        s .pre .0 .2 (l .index),
+        c .before .before .width .ensures,
+        c .before .gap-before .ensures .few,
+        omega (
+          arith,
+          l .inv .1,
+          c .before
+              .before .before .before .if1 .left,
+        ),
+      ),
+    )
 
 after-requires : tie.Need-after-requires Inv-loop μ-loop
 after-requires c κs =
@@ -80,7 +96,21 @@ after-requires c κs =
     let w = c .before .before .before .before .before .width .ensures in
     let k = s .pre .0 .2 (l .index) in (
       (s .pre .0 .1, k),
-      ((w, omega (arith, w, few-bytes _ k), l .inv .2, omega (arith, l .inv .3, c .before .before .before .before .before .before .before .before .loop-test .taken, s .pre .1 .0)), c .before .before .before .before .gap-before .ensures),
+      (
+        (
+          w,
+          omega (arith, w, few-bytes _ k),
+          l .inv .2,
+          omega (
+            arith,
+            l .inv .3,
+            c .before .before .before .before .before .before .before .before
+                .loop-test .taken,
+            s .pre .1 .0,
+          ),
+        ),
+        c .before .before .before .before .gap-before .ensures,
+      ),
     )
 
 add-index : tie.Need-add-index Inv-loop μ-loop
@@ -102,7 +132,17 @@ loop-again c =
     let n = length-append (gapBytes (g .result)) (textOf (getD ts (l .index) 0)) in
     let done = take (l .at) (l .room) in (
       omega (arith, t),
-      omega (arith, w .next, w .kept, n, gap-short (g .result) (g .ensures .few), few-bytes _ k, l .inv .1, c .before .before .before .before .before .before .before .before .if1 .left),
+      omega (
+        arith,
+        w .next,
+        w .kept,
+        n,
+        gap-short (g .result) (g .ensures .few),
+        few-bytes _ k,
+        l .inv .1,
+        c .before .before .before .before .before
+            .before .before .before .if1 .left,
+      ),
       next-column _ _ _ e k,
       omega (arith, l .inv .3, next-depth _ _ _ e),
       next-last _ _ _ e k,
@@ -124,7 +164,8 @@ returns-2 c =
     let p = c .before .before .put-byte .ensures in
     record {
       within = omega (arith, p .next, p .kept, l .inv .1);
-      laid = λ h. p .text ∙ ap (λ (xs : List ℕ). take (l .at) (l .room) ++ xs) (sym (laid-none _ (l .index) (penOf (l .pen)) (c .before .before .before .before .loop-test .left)))
+      laid = λ h. p .text ∙ ap (λ (xs : List ℕ). take (l .at) (l .room) ++ xs) (sym (laid-none _ (l .index) (penOf (l .pen)) (c .before .before .before
+          .before .loop-test .left)))
           ∙ sym (l .inv .6);
     }
 

@@ -16,7 +16,12 @@ slice-write-values : tie.Need-slice-write-values
 slice-write-values c = let z = c .before .before .before .before .before .pre .5 .some-values in search needs
 
 begin-requires : tie.Need-begin-requires
-begin-requires c κs = let z = c .before .before .before .before .before .before .pre .5 in (c .before .before .before .before .before .before .pre .2, z .some-goals, z .most-goals)
+begin-requires c κs = let z = c .before .before .before .before .before .before .pre .5 in (
+  c .before .before .before .before .before .before .pre .2,
+  z
+      .some-goals,
+  z .most-goals,
+)
 
 run-requires : tie.Need-run-requires
 run-requires c κs =
@@ -25,7 +30,8 @@ run-requires c κs =
     let v = p .5 .some-values in
     starts (s .args .tokens .now) _ _ (set (s .args .values .now) 0 1024) (s .args .words .now) (s .args .at) (s .args .number) _ (s .args .left) (p .0) (p .1)
     (p .2) (p .3) (p .4) (resized (p .5) refl (length-set (s .args .values .now) 0 1024) refl)
-    (getD-set-same (s .args .values .now) 0 1024 0 (omega arith)) (c .before .before .before .before .before .begin .ensures .0) (c .before .before .before .before .before .begin .ensures .1)
+    (getD-set-same (s .args .values .now) 0 1024 0 (omega arith)) (c .before .before .before .before .before .begin .ensures .0) (c .before .before
+    .before .before .before .begin .ensures .1)
 
 same-length : tie.Need-same-length
 same-length c = search needs
@@ -34,16 +40,20 @@ same-length-2 : tie.Need-same-length-2
 same-length-2 c = search needs
 
 same-length-3 : tie.Need-same-length-3
-same-length-3 c = c .before .before .before .values .given ∙ length-set (c .before .before .before .before .before .before .before .before .before .before .before .before .before .before .before .before .before .before .before .args .values .now) 0 1024
+same-length-3 c = c .before .before .before .values .given ∙ length-set (c .before .before .before .before .before .before .before .before .before .before
+    .before .before .before .before .before .before .before .before .before .args .values .now) 0 1024
 
 returns : tie.Need-returns
 returns c =
-    let s = c .before .before .before .before .before .before .before .before .before .before .before .before .before .before .before .before .before .before .before in
+    let s = c .before .before .before .before .before .before .before .before .before .before .before .before .before .before .before .before .before
+    .before .before in
     let p = s .pre in
     let v = p .5 .some-values in
     started (s .args .tokens .now) _ _ (set (s .args .values .now) 0 1024) (s .args .words .now) (s .args .at) (s .args .number) _ (s .args .left) (p .0) (p .1)
     (p .2) (p .3) (p .4) (resized (p .5) refl (length-set (s .args .values .now) 0 1024) refl)
-    (getD-set-same (s .args .values .now) 0 1024 0 (omega arith)) (c .before .before .before .before .before .before .before .before .before .before .before .before .begin .ensures .0) (c .before .before .before .before .before .before .before .before .before .before .before .before .begin .ensures .1) _ _ _ (c .before .before .before .before .before .before .run .ensures)
+    (getD-set-same (s .args .values .now) 0 1024 0 (omega arith)) (c .before .before .before .before .before .before .before .before .before .before
+    .before .before .begin .ensures .0) (c .before .before .before .before .before .before .before .before .before .before .before .before .begin
+    .ensures .1) _ _ _ (c .before .before .before .before .before .before .run .ensures)
 
 pub procedure-spec : {M : Type 1} → statement M
 procedure-spec =

@@ -49,7 +49,8 @@ same-length-6 : tie.Need-same-length-6 Inv-loop μ-loop
 same-length-6 c = c .before .before .before .before .before .before .loop .inv .kept .long
 
 returns-2 : tie.Need-returns-2 Inv-loop μ-loop
-returns-2 c = run-many _ _ _ _ _ _ _ _ _ _ (c .before .before .before .before .before .before .loop .inv) (c .before .before .if2 .taken) _ (c .crowded .ensures)
+returns-2 c = run-many _ _ _ _ _ _ _ _ _ _ (c .before .before .before .before .before .before .loop .inv) (c .before .before .if2 .taken) _ (c .crowded
+    .ensures)
 
 sub-if3 : tie.Need-sub-if3 Inv-loop μ-loop
 sub-if3 c = let g = c .before .before .before .before .loop .inv .state .sized .some-values in search needs
@@ -67,7 +68,8 @@ same-length-9 : tie.Need-same-length-9 Inv-loop μ-loop
 same-length-9 c = c .before .before .before .before .before .before .before .before .loop .inv .kept .long
 
 returns-3 : tie.Need-returns-3 Inv-loop μ-loop
-returns-3 c = run-full _ _ _ _ _ _ _ _ _ _ (c .before .before .before .before .before .before .before .before .loop .inv) (c .before .before .before .before .before .before .if1 .left) (c .before .before .before .before .if2 .left) (c .before .before .if3 .taken) _ (c .crowded2 .ensures)
+returns-3 c = run-full _ _ _ _ _ _ _ _ _ _ (c .before .before .before .before .before .before .before .before .loop .inv) (c .before .before .before
+    .before .before .before .if1 .left) (c .before .before .before .before .if2 .left) (c .before .before .if3 .taken) _ (c .crowded2 .ensures)
 
 is-full-requires : tie.Need-is-full-requires Inv-loop μ-loop
 is-full-requires c κs = search needs
@@ -82,39 +84,60 @@ same-length-12 : tie.Need-same-length-12 Inv-loop μ-loop
 same-length-12 c = c .before .before .before .before .before .before .before .before .before .loop .inv .kept .long
 
 returns-4 : tie.Need-returns-4 Inv-loop μ-loop
-returns-4 c = run-short _ _ _ _ _ _ _ _ _ _ (c .before .before .before .before .before .before .before .before .before .loop .inv) (c .before .before .before .before .before .before .before .if1 .left) (c .before .before .before .before .before .if2 .left) (sym (c .before .is-full .ensures) ∙ c .if4 .taken)
+returns-4 c = run-short _ _ _ _ _ _ _ _ _ _ (c .before .before .before .before .before .before .before .before .before .loop .inv) (c .before .before
+    .before .before .before .before .before .if1 .left) (c .before .before .before .before .before .if2 .left) (sym (c .before .is-full .ensures) ∙ c .if4
+    .taken)
 
 take-requires : tie.Need-take-requires Inv-loop μ-loop
 take-requires c κs = (
   c .before .before .before .before .before .before .before .before .before .before .before .before .loop .inv .state,
-  going _ _ _ _ _ _ _ _ _ _ (c .before .before .before .before .before .before .before .before .before .before .before .before .loop .inv) (c .before .before .before .before .before .before .before .before .before .before .if1 .left) (c .before .before .before .before .before .before .before .before .if2 .left) (c .before .before .before .before .before .before .if3 .left),
-  none-left _ _ _ _ _ _ _ _ _ _ (c .before .before .before .before .before .before .before .before .before .before .before .before .loop .inv) (c .before .before .before .before .before .before .before .before .before .before .if1 .left) (c .before .before .before .before .before .before .before .before .if2 .left) (sym (c .before .before .before .before .is-full .ensures) ∙ c .before .before .before .if4 .left),
+  going _ _ _ _ _ _ _ _ _ _ (c .before .before .before .before .before .before .before .before .before .before .before .before .loop .inv) (c .before
+      .before .before .before .before .before .before .before .before .before .if1 .left) (c .before .before .before .before .before .before .before
+      .before .if2 .left) (c .before .before .before .before .before .before .if3 .left),
+  none-left _ _ _ _ _ _ _ _ _ _ (c .before .before .before .before .before .before .before .before .before .before .before .before .loop .inv) (c .before
+      .before .before .before .before .before .before .before .before .before .if1 .left) (c .before .before .before .before .before .before .before
+      .before .if2 .left) (sym (c .before .before .before .before .is-full .ensures) ∙ c .before .before .before .if4 .left),
 )
 
 enum-known-next : tie.Need-enum-known-next Inv-loop μ-loop
 enum-known-next c = search needs
 
 loop-less : tie.Need-loop-less Inv-loop μ-loop
-loop-less c = let t = rw (c .before .next .given .1) at (c .before .before .before .before .before .before .before .before .before .take .ensures) in t .next .less
+loop-less c = let t = rw (c .before .next .given .1) at (c .before .before .before .before .before .before .before .before .before .take .ensures) in t
+    .next .less
 
 loop-again : tie.Need-loop-again Inv-loop μ-loop
-loop-again c = run-on _ _ _ _ _ _ _ _ _ _ (c .before .before .before .before .before .before .before .before .before .before .before .before .before .before .before .before .before .before .before .before .before .before .loop .inv) (c .before .before .before .before .before .before .before .before .before .before .before .before .before .before .before .before .before .before .before .before .if1 .left) (c .before .before .before .before .before .before .before .before .before .before .before .before .before .before .before .before .before .before .if2 .left) (c .before .before .before .before .before .before .before .before .before .before .before .before .before .before .before .before .if3 .left) _ _ _ _
+loop-again c = run-on _ _ _ _ _ _ _ _ _ _ (c .before .before .before .before .before .before .before .before .before .before .before .before .before
+    .before .before .before .before .before .before .before .before .before .loop .inv) (c .before .before .before .before .before .before .before .before
+    .before .before .before .before .before .before .before .before .before .before .before .before .if1 .left) (c .before .before .before .before .before
+    .before .before .before .before .before .before .before .before .before .before .before .before .before .if2 .left) (c .before .before .before .before
+    .before .before .before .before .before .before .before .before .before .before .before .before .if3 .left) _ _ _ _
     (rw (c .before .next .given .1) at (c .before .before .before .before .before .before .before .before .before .take .ensures))
 
 enum-known-reason : tie.Need-enum-known-reason Inv-loop μ-loop
 enum-known-reason c = search needs
 
 same-length-13 : tie.Need-same-length-13 Inv-loop μ-loop
-same-length-13 c = (rw (c .before .reason .given .1) at (c .before .before .before .before .before .before .before .before .before .take .ensures)) .goals-stay ∙ c .before .before .before .before .before .before .before .before .before .before .before .before .before .before .before .before .before .before .before .before .before .before .loop .inv .goals-stay
+same-length-13 c = (rw (c .before .reason .given .1) at (c .before .before .before .before .before .before .before .before .before .take .ensures))
+    .goals-stay ∙ c .before .before .before .before .before .before .before .before .before .before .before .before .before .before .before .before
+    .before .before .before .before .before .before .loop .inv .goals-stay
 
 same-length-14 : tie.Need-same-length-14 Inv-loop μ-loop
-same-length-14 c = (rw (c .before .reason .given .1) at (c .before .before .before .before .before .before .before .before .before .take .ensures)) .values-stay ∙ c .before .before .before .before .before .before .before .before .before .before .before .before .before .before .before .before .before .before .before .before .before .before .loop .inv .values-stay
+same-length-14 c = (rw (c .before .reason .given .1) at (c .before .before .before .before .before .before .before .before .before .take .ensures))
+    .values-stay ∙ c .before .before .before .before .before .before .before .before .before .before .before .before .before .before .before .before
+    .before .before .before .before .before .before .loop .inv .values-stay
 
 same-length-15 : tie.Need-same-length-15 Inv-loop μ-loop
-same-length-15 c = (rw (c .before .reason .given .1) at (c .before .before .before .before .before .before .before .before .before .take .ensures)) .kept .long ∙ c .before .before .before .before .before .before .before .before .before .before .before .before .before .before .before .before .before .before .before .before .before .before .loop .inv .kept .long
+same-length-15 c = (rw (c .before .reason .given .1) at (c .before .before .before .before .before .before .before .before .before .take .ensures)) .kept
+    .long ∙ c .before .before .before .before .before .before .before .before .before .before .before .before .before .before .before .before .before
+    .before .before .before .before .before .loop .inv .kept .long
 
 returns-5 : tie.Need-returns-5 Inv-loop μ-loop
-returns-5 c = run-stops _ _ _ _ _ _ _ _ _ _ (c .before .before .before .before .before .before .before .before .before .before .before .before .before .before .before .before .before .before .before .before .before .before .loop .inv) (c .before .before .before .before .before .before .before .before .before .before .before .before .before .before .before .before .before .before .before .before .if1 .left) (c .before .before .before .before .before .before .before .before .before .before .before .before .before .before .before .before .before .before .if2 .left) (c .before .before .before .before .before .before .before .before .before .before .before .before .before .before .before .before .if3 .left) _ _ _ _ _
+returns-5 c = run-stops _ _ _ _ _ _ _ _ _ _ (c .before .before .before .before .before .before .before .before .before .before .before .before .before
+    .before .before .before .before .before .before .before .before .before .loop .inv) (c .before .before .before .before .before .before .before .before
+    .before .before .before .before .before .before .before .before .before .before .before .before .if1 .left) (c .before .before .before .before .before
+    .before .before .before .before .before .before .before .before .before .before .before .before .before .if2 .left) (c .before .before .before .before
+    .before .before .before .before .before .before .before .before .before .before .before .before .if3 .left) _ _ _ _ _
     (rw (c .before .reason .given .1) at (c .before .before .before .before .before .before .before .before .before .take .ensures))
 
 pub run-spec : {M : Type 1} → statement M

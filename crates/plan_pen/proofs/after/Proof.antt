@@ -27,7 +27,8 @@ returns-2 : tie.Need-returns-2
 returns-2 c =
     let s = c .before .before .before .before in
     pen-is (penOf (s .args .pen)) (s .args .token) _ _
-    (on-same _ _ (s .args .gap) (s .pre .1 .1) (s .args .width) (s .pre .1 .0 .0) (c .before .before .if1 .left)) (c .before .before .before .depth-after .ensures)
+    (on-same _ _ (s .args .gap) (s .pre .1 .1) (s .args .width) (s .pre .1 .0 .0) (c .before .before .if1 .left)) (c .before .before .before .depth-after
+    .ensures)
 
 pub after-spec : {M : Type 1} → statement M
 after-spec = tie.close (tie.spec depth-after-requires add-t8 returns add-t9 add-t10 returns-2)

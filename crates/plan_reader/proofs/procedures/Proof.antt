@@ -40,28 +40,41 @@ add-t30 : tie.Need-add-t30 Inv-loop μ-loop
 add-t30 c = search needs
 
 same-length : tie.Need-same-length Inv-loop μ-loop
-same-length c = c .before .before .before .before .before .before .before .before .words .given ∙ c .before .before .before .before .before .before .before .before .before .before .before .before .before .before .before .before .loop .inv .1
+same-length c = c .before .before .before .before .before .before .before .before .words .given ∙ c .before .before .before .before .before .before
+    .before .before .before .before .before .before .before .before .before .before .loop .inv .1
 
 same-length-2 : tie.Need-same-length-2 Inv-loop μ-loop
-same-length-2 c = c .before .before .before .before .before .before .goals .given ∙ c .before .before .before .before .before .before .before .before .before .before .before .before .before .before .before .before .loop .inv .2
+same-length-2 c = c .before .before .before .before .before .before .goals .given ∙ c .before .before .before .before .before .before .before .before
+    .before .before .before .before .before .before .before .before .loop .inv .2
 
 same-length-3 : tie.Need-same-length-3 Inv-loop μ-loop
-same-length-3 c = c .before .before .before .before .values .given ∙ c .before .before .before .before .before .before .before .before .before .before .before .before .before .before .before .before .loop .inv .3
+same-length-3 c = c .before .before .before .before .values .given ∙ c .before .before .before .before .before .before .before .before .before .before
+    .before .before .before .before .before .before .loop .inv .3
 
 returns : tie.Need-returns Inv-loop μ-loop
-returns c = record { so = (rw add-one (last-plan (c .before .before .before .before .before .before .before .before .before .step .ensures) (c .before .next2 .given .1)), c .before .before .before .before .before .before .before .before .before .before .before .before .before .before .before .before .before .before .before .before .before .before .pre .0 .2) }
+returns c = record {
+  so = (
+    rw add-one (last-plan (c .before .before .before .before .before .before .before .before .before .step .ensures) (c .before
+        .next2 .given .1)),
+    c .before .before .before .before .before .before .before .before .before .before .before .before .before .before .before .before
+        .before .before .before .before .before .before .pre .0 .2,
+  );
+}
 
 enum-known-next-3 : tie.Need-enum-known-next-3 Inv-loop μ-loop
 enum-known-next-3 c = search needs
 
 same-length-4 : tie.Need-same-length-4 Inv-loop μ-loop
-same-length-4 c = c .before .before .before .before .before .before .before .before .words .given ∙ c .before .before .before .before .before .before .before .before .before .before .before .before .before .before .before .before .loop .inv .1
+same-length-4 c = c .before .before .before .before .before .before .before .before .words .given ∙ c .before .before .before .before .before .before
+    .before .before .before .before .before .before .before .before .before .before .loop .inv .1
 
 same-length-5 : tie.Need-same-length-5 Inv-loop μ-loop
-same-length-5 c = c .before .before .before .before .before .before .goals .given ∙ c .before .before .before .before .before .before .before .before .before .before .before .before .before .before .before .before .loop .inv .2
+same-length-5 c = c .before .before .before .before .before .before .goals .given ∙ c .before .before .before .before .before .before .before .before
+    .before .before .before .before .before .before .before .before .loop .inv .2
 
 same-length-6 : tie.Need-same-length-6 Inv-loop μ-loop
-same-length-6 c = c .before .before .before .before .values .given ∙ c .before .before .before .before .before .before .before .before .before .before .before .before .before .before .before .before .loop .inv .3
+same-length-6 c = c .before .before .before .before .values .given ∙ c .before .before .before .before .before .before .before .before .before .before
+    .before .before .before .before .before .before .loop .inv .3
 
 returns-2 : tie.Need-returns-2 Inv-loop μ-loop
 returns-2 c = record { so = stop-fault (c .before .before .before .before .before .before .before .before .before .step .ensures) (c .before .next3 .given .1) }
@@ -70,13 +83,16 @@ enum-told : tie.Need-enum-told Inv-loop μ-loop
 enum-told c = search needs
 
 same-length-7 : tie.Need-same-length-7 Inv-loop μ-loop
-same-length-7 c = c .before .before .before .before .before .before .before .words .given ∙ c .before .before .before .before .before .before .before .before .before .before .before .before .before .before .before .loop .inv .1
+same-length-7 c = c .before .before .before .before .before .before .before .words .given ∙ c .before .before .before .before .before .before .before
+    .before .before .before .before .before .before .before .before .loop .inv .1
 
 same-length-8 : tie.Need-same-length-8 Inv-loop μ-loop
-same-length-8 c = c .before .before .before .before .before .goals .given ∙ c .before .before .before .before .before .before .before .before .before .before .before .before .before .before .before .loop .inv .2
+same-length-8 c = c .before .before .before .before .before .goals .given ∙ c .before .before .before .before .before .before .before .before .before
+    .before .before .before .before .before .before .loop .inv .2
 
 same-length-9 : tie.Need-same-length-9 Inv-loop μ-loop
-same-length-9 c = c .before .before .before .values .given ∙ c .before .before .before .before .before .before .before .before .before .before .before .before .before .before .before .loop .inv .3
+same-length-9 c = c .before .before .before .values .given ∙ c .before .before .before .before .before .before .before .before .before .before .before
+    .before .before .before .before .loop .inv .3
 
 returns-3 : tie.Need-returns-3 Inv-loop μ-loop
 returns-3 c = record { so = crowded-short (c .before .before .before .before .before .before .before .before .step .ensures) (c .enum-told .given .1) }
@@ -89,8 +105,14 @@ loop-less c = search needs
 
 loop-again : tie.Need-loop-again Inv-loop μ-loop
 loop-again c =
-    let i = c .before .before .before .before .before .before .before .before .before .before .before .before .before .before .before .before .loop .inv in
-    (rw add-one (on-going (c .before .before .before .before .before .before .before .before .before .step .ensures) (c .before .next .given .1)), c .before .before .before .before .before .before .before .before .words .given ∙ i .1, c .before .before .before .before .before .before .goals .given ∙ i .2, c .before .before .before .before .values .given ∙ i .3)
+    let i = c .before .before .before .before .before .before .before .before .before .before .before .before .before .before .before .before .loop .inv in (
+      rw add-one (on-going (c .before .before .before .before .before .before .before .before .before .step .ensures) (c .before .next .given .1)),
+      c
+          .before .before .before .before .before .before .before .before .words .given ∙ i .1,
+      c .before .before .before .before .before .before .goals
+          .given ∙ i .2,
+      c .before .before .before .before .values .given ∙ i .3,
+    )
 
 same-length-10 : tie.Need-same-length-10 Inv-loop μ-loop
 same-length-10 c = c .before .loop .inv .1

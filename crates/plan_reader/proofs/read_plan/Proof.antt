@@ -32,7 +32,8 @@ part-procedures-end c =
 
 procedures-requires : tie.Need-procedures-requires
 procedures-requires c κs =
-    let s = c .before .before .before .before .before .before .before .before .before .before .before .before .before .before .before .before .before .before .before in
+    let s = c .before .before .before .before .before .before .before .before .before .before .before .before .before .before .before .before .before
+    .before .before in
     let h = c .before .before .before .before .before .before .before .before .before .before .before .before .before .header .ensures in
     let k = c .before .before .before .before .before .before .before .before .before .before .before .if1 .left in (
       (s .pre .0 .1, first-counts _ (c .before .before .before .before .before .before .before .before .before .put-counts .ensures), k),

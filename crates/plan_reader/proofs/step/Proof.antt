@@ -20,8 +20,13 @@ enum-known-parsed-2 c = search needs
 keep-requires : tie.Need-keep-requires
 keep-requires c κs =
     let r = c .before .before .before .before .before .before .before .before .before .before .before .before .procedure .ensures in
-    let f = read-finished r (c .before .before .before .before .parsed2 .given .1) in
-    (c .before .before .before .before .before .before .before .before .before .before .before .before .before .before .before .before .before .before .before .before .before .pre .0 .2, r .kept .ordered, f .finished .root-below, f .finished .parameters-few)
+    let f = read-finished r (c .before .before .before .before .parsed2 .given .1) in (
+      c .before .before .before .before .before .before .before .before .before .before .before .before .before .before .before .before .before .before
+          .before .before .before .pre .0 .2,
+      r .kept .ordered,
+      f .finished .root-below,
+      f .finished .parameters-few,
+    )
 
 enum-told : tie.Need-enum-told
 enum-told c = search needs
@@ -38,7 +43,10 @@ same-length-3 c = search needs
 returns : tie.Need-returns
 returns c =
     let s = c .before .before .before .before .before .before .before .before .before .before .before .before .before .before .before .before .before .before in
-    record { so = stop-faulty (s .pre .1 .1) (s .pre .0 .2) (s .pre .0 .1) (c .before .before .before .before .before .before .before .before .before .procedure .ensures) (c .before .parsed .given .1) }
+    record {
+      so = stop-faulty (s .pre .1 .1) (s .pre .0 .2) (s .pre .0 .1) (c .before .before .before .before .before .before .before .before .before
+          .procedure .ensures) (c .before .parsed .given .1);
+    }
 
 same-length-4 : tie.Need-same-length-4
 same-length-4 c = search needs
@@ -51,9 +59,11 @@ same-length-6 c = search needs
 
 returns-2 : tie.Need-returns-2
 returns-2 c =
-    let s = c .before .before .before .before .before .before .before .before .before .before .before .before .before .before .before .before .before .before .before .before .before .before in
+    let s = c .before .before .before .before .before .before .before .before .before .before .before .before .before .before .before .before .before
+    .before .before .before .before .before in
     let r = c .before .before .before .before .before .before .before .before .before .before .before .before .before .procedure .ensures in
-    kept-goes (s .pre .1 .1) (s .pre .0 .2) (s .pre .0 .1) (r .kept) (read-finished r (c .before .before .before .before .before .parsed2 .given .1)) (c .keep .ensures)
+    kept-goes (s .pre .1 .1) (s .pre .0 .2) (s .pre .0 .1) (r .kept) (read-finished r (c .before .before .before .before .before .parsed2 .given .1)) (c
+    .keep .ensures)
 
 same-length-7 : tie.Need-same-length-7
 same-length-7 c = search needs

@@ -111,7 +111,8 @@ read-from-returns-2 : (t : ℕ) → read-from-lts.Need-returns-2 (
   in-few-reads.Asked,
   in-few-reads.Learnt,
 ) (read-from-at t) read-from.Post
-read-from-returns-2 t c = tried-answer _ _ _ _ 384 (c .before .before .before .in-many .result) (c .before .before .before .in-many .ensures) (inl (c .if3 .taken))
+read-from-returns-2 t c = tried-answer _ _ _ _ 384 (c .before .before .before .in-many .result) (c .before .before .before .in-many .ensures) (inl (c .if3
+    .taken))
 
 read-from-read-from-requires : (t : ℕ) → read-from-lts.Need-read-from-requires (
   in-all-reads.Asked,
@@ -125,7 +126,11 @@ read-from-read-from-requires : (t : ℕ) → read-from-lts.Need-read-from-requir
   in-few-reads.Asked,
   in-few-reads.Learnt,
 ) (read-from-at t) read-from.Post
-read-from-read-from-requires t c κs = (omega arith, crowded-told _ _ _ _ 384 (c .before .before .before .before .before .in-many .result) (c .before .before .before .before .before .in-many .ensures) (c .before .before .if3 .left))
+read-from-read-from-requires t c κs = (
+  omega arith,
+  crowded-told _ _ _ _ 384 (c .before .before .before .before .before .in-many .result) (c .before
+      .before .before .before .before .in-many .ensures) (c .before .before .if3 .left),
+)
 
 read-from-same-length-3 : (t : ℕ) → read-from-lts.Need-same-length-3 (
   in-all-reads.Asked,
@@ -139,7 +144,8 @@ read-from-same-length-3 : (t : ℕ) → read-from-lts.Need-same-length-3 (
   in-few-reads.Asked,
   in-few-reads.Learnt,
 ) (read-from-at t) read-from.Post
-read-from-same-length-3 t c = ap length (c .before .before .read-from .ensures .1) ∙ read-length _ _ ∙ tried-length _ _ _ _ 384 (c .before .before .before .before .before .before .before .before .in-many .result) (c .before .before .before .before .before .before .before .before .in-many .ensures)
+read-from-same-length-3 t c = ap length (c .before .before .read-from .ensures .1) ∙ read-length _ _ ∙ tried-length _ _ _ _ 384 (c .before .before .before
+    .before .before .before .before .before .in-many .result) (c .before .before .before .before .before .before .before .before .in-many .ensures)
 
 read-from-returns-3 : (t : ℕ) → read-from-lts.Need-returns-3 (
   in-all-reads.Asked,
@@ -153,7 +159,12 @@ read-from-returns-3 : (t : ℕ) → read-from-lts.Need-returns-3 (
   in-few-reads.Asked,
   in-few-reads.Learnt,
 ) (read-from-at t) read-from.Post
-read-from-returns-3 t c = let e = crowded-area _ _ _ _ 384 (c .before .before .before .before .before .before .before .before .in-many .result) (c .before .before .before .before .before .before .before .before .in-many .ensures) (c .before .before .before .before .before .if3 .left) in (c .before .before .read-from .ensures .0 ∙ ap (readAnswer _) e, c .before .before .read-from .ensures .1 ∙ ap (readArea _) e)
+read-from-returns-3 t c = let e = crowded-area _ _ _ _ 384 (c .before .before .before .before .before .before .before .before .in-many .result) (c .before
+    .before .before .before .before .before .before .before .in-many .ensures) (c .before .before .before .before .before .if3 .left) in (
+      c .before
+          .before .read-from .ensures .0 ∙ ap (readAnswer _) e,
+      c .before .before .read-from .ensures .1 ∙ ap (readArea _) e,
+    )
 
 read-from-in-some-requires : (t : ℕ) → read-from-lts.Need-in-some-requires (
   in-all-reads.Asked,
@@ -195,7 +206,8 @@ read-from-returns-4 : (t : ℕ) → read-from-lts.Need-returns-4 (
   in-few-reads.Asked,
   in-few-reads.Learnt,
 ) (read-from-at t) read-from.Post
-read-from-returns-4 t c = tried-answer _ _ _ _ 192 (c .before .before .before .in-some .result) (c .before .before .before .in-some .ensures) (inl (c .if5 .taken))
+read-from-returns-4 t c = tried-answer _ _ _ _ 192 (c .before .before .before .in-some .result) (c .before .before .before .in-some .ensures) (inl (c .if5
+    .taken))
 
 read-from-read-from-requires-2 : (t : ℕ) → read-from-lts.Need-read-from-requires-2 (
   in-all-reads.Asked,
@@ -209,7 +221,11 @@ read-from-read-from-requires-2 : (t : ℕ) → read-from-lts.Need-read-from-requ
   in-few-reads.Asked,
   in-few-reads.Learnt,
 ) (read-from-at t) read-from.Post
-read-from-read-from-requires-2 t c κs = (omega arith, crowded-told _ _ _ _ 192 (c .before .before .before .before .before .in-some .result) (c .before .before .before .before .before .in-some .ensures) (c .before .before .if5 .left))
+read-from-read-from-requires-2 t c κs = (
+  omega arith,
+  crowded-told _ _ _ _ 192 (c .before .before .before .before .before .in-some .result) (c .before
+      .before .before .before .before .in-some .ensures) (c .before .before .if5 .left),
+)
 
 read-from-same-length-5 : (t : ℕ) → read-from-lts.Need-same-length-5 (
   in-all-reads.Asked,
@@ -223,7 +239,8 @@ read-from-same-length-5 : (t : ℕ) → read-from-lts.Need-same-length-5 (
   in-few-reads.Asked,
   in-few-reads.Learnt,
 ) (read-from-at t) read-from.Post
-read-from-same-length-5 t c = ap length (c .before .before .read-from2 .ensures .1) ∙ read-length _ _ ∙ tried-length _ _ _ _ 192 (c .before .before .before .before .before .before .before .before .in-some .result) (c .before .before .before .before .before .before .before .before .in-some .ensures)
+read-from-same-length-5 t c = ap length (c .before .before .read-from2 .ensures .1) ∙ read-length _ _ ∙ tried-length _ _ _ _ 192 (c .before .before
+    .before .before .before .before .before .before .in-some .result) (c .before .before .before .before .before .before .before .before .in-some .ensures)
 
 read-from-returns-5 : (t : ℕ) → read-from-lts.Need-returns-5 (
   in-all-reads.Asked,
@@ -237,7 +254,12 @@ read-from-returns-5 : (t : ℕ) → read-from-lts.Need-returns-5 (
   in-few-reads.Asked,
   in-few-reads.Learnt,
 ) (read-from-at t) read-from.Post
-read-from-returns-5 t c = let e = crowded-area _ _ _ _ 192 (c .before .before .before .before .before .before .before .before .in-some .result) (c .before .before .before .before .before .before .before .before .in-some .ensures) (c .before .before .before .before .before .if5 .left) in (c .before .before .read-from2 .ensures .0 ∙ ap (readAnswer _) e, c .before .before .read-from2 .ensures .1 ∙ ap (readArea _) e)
+read-from-returns-5 t c = let e = crowded-area _ _ _ _ 192 (c .before .before .before .before .before .before .before .before .in-some .result) (c .before
+    .before .before .before .before .before .before .before .in-some .ensures) (c .before .before .before .before .before .if5 .left) in (
+      c .before
+          .before .read-from2 .ensures .0 ∙ ap (readAnswer _) e,
+      c .before .before .read-from2 .ensures .1 ∙ ap (readArea _) e,
+    )
 
 read-from-in-few-requires : (t : ℕ) → read-from-lts.Need-in-few-requires (
   in-all-reads.Asked,
@@ -293,7 +315,11 @@ read-from-read-from-requires-3 : (t : ℕ) → read-from-lts.Need-read-from-requ
   in-few-reads.Asked,
   in-few-reads.Learnt,
 ) (read-from-at t) read-from.Post
-read-from-read-from-requires-3 t c κs = (omega arith, crowded-told _ _ _ _ 64 (c .before .before .before .before .before .in-few .result) (c .before .before .before .before .before .in-few .ensures) (c .before .before .if6 .left))
+read-from-read-from-requires-3 t c κs = (
+  omega arith,
+  crowded-told _ _ _ _ 64 (c .before .before .before .before .before .in-few .result) (c .before
+      .before .before .before .before .in-few .ensures) (c .before .before .if6 .left),
+)
 
 read-from-same-length-7 : (t : ℕ) → read-from-lts.Need-same-length-7 (
   in-all-reads.Asked,
@@ -307,7 +333,8 @@ read-from-same-length-7 : (t : ℕ) → read-from-lts.Need-same-length-7 (
   in-few-reads.Asked,
   in-few-reads.Learnt,
 ) (read-from-at t) read-from.Post
-read-from-same-length-7 t c = ap length (c .before .before .read-from3 .ensures .1) ∙ read-length _ _ ∙ tried-length _ _ _ _ 64 (c .before .before .before .before .before .before .before .before .in-few .result) (c .before .before .before .before .before .before .before .before .in-few .ensures)
+read-from-same-length-7 t c = ap length (c .before .before .read-from3 .ensures .1) ∙ read-length _ _ ∙ tried-length _ _ _ _ 64 (c .before .before .before
+    .before .before .before .before .before .in-few .result) (c .before .before .before .before .before .before .before .before .in-few .ensures)
 
 read-from-returns-7 : (t : ℕ) → read-from-lts.Need-returns-7 (
   in-all-reads.Asked,
@@ -321,7 +348,12 @@ read-from-returns-7 : (t : ℕ) → read-from-lts.Need-returns-7 (
   in-few-reads.Asked,
   in-few-reads.Learnt,
 ) (read-from-at t) read-from.Post
-read-from-returns-7 t c = let e = crowded-area _ _ _ _ 64 (c .before .before .before .before .before .before .before .before .in-few .result) (c .before .before .before .before .before .before .before .before .in-few .ensures) (c .before .before .before .before .before .if6 .left) in (c .before .before .read-from3 .ensures .0 ∙ ap (readAnswer _) e, c .before .before .read-from3 .ensures .1 ∙ ap (readArea _) e)
+read-from-returns-7 t c = let e = crowded-area _ _ _ _ 64 (c .before .before .before .before .before .before .before .before .in-few .result) (c .before
+    .before .before .before .before .before .before .before .in-few .ensures) (c .before .before .before .before .before .if6 .left) in (
+      c .before .before
+          .read-from3 .ensures .0 ∙ ap (readAnswer _) e,
+      c .before .before .read-from3 .ensures .1 ∙ ap (readArea _) e,
+    )
 
 pub +read-from-spec : {M : Type 1} → statement M
 +read-from-spec = close μ-read-from λ t. read-from-lts.spec (

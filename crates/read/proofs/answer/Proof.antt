@@ -37,7 +37,11 @@ failed-requires c κs = search needs
 
 returns-3 : tie.Need-returns-3
 unfolding toldAnswer
-returns-3 c = c .failed .ensures ∙ sym (rw (ne-eqb _ 0 (c .before .before .before .before .before .before .if1 .left), ne-eqb _ 1 (c .before .before .before .before .if2 .left)))
+returns-3 c = c .failed .ensures ∙ sym (rw (
+  ne-eqb _ 0 (c .before .before .before .before .before .before .if1 .left),
+  ne-eqb _ 1 (c .before .before
+      .before .before .if2 .left),
+))
 
 pub answer-spec : {M : Type 1} → statement M
 answer-spec =

@@ -26,7 +26,12 @@ returns-2 : tie.Need-returns-2
 returns-2 c =
     let l = c .before .before .before .before .before .before .before .before .before .before .before .before .before .before .before .pre .0 in
     let m = l .sized .most-words in
-    many-told _ _ (c .before .before .before .before .before .before .lex .ensures) (l .few-tokens) _ (l .whole (omega (arith, c .before .before .if2 .left))) (omega (arith, c .before .before .before .before .before .before .lex .ensures .same, c .before .before .before .if1 .taken)) (c .tell .ensures)
+    many-told _ _ (c .before .before .before .before .before .before .lex .ensures) (l .few-tokens) _ (l .whole (omega (
+      arith,
+      c .before .before .if2
+          .left,
+    ))) (omega (arith, c .before .before .before .before .before .before .lex .ensures .same, c .before .before .before .if1 .taken)) (c .tell
+    .ensures)
 
 sub-read-tokens : tie.Need-sub-read-tokens
 sub-read-tokens c = search needs
@@ -39,9 +44,24 @@ part-read-tokens-end c = search (needs, c .before .if1 .left)
 
 read-tokens-requires : tie.Need-read-tokens-requires
 read-tokens-requires c κs =
-    let l = c .before .before .before .before .before .before .before .before .before .before .before .before .before .before .before .before .before .before .before .before .pre .0 in
-    let f = first-codes _ [] (c .before .before .before .before .before .before .before .before .before .before .before .lex .ensures) (l .few-tokens) (omega (arith, c .before .before .before .before .before .before .before .before .before .before .before .lex .ensures .same, c .before .before .before .before .before .before .before .before .if1 .left)) in
-    ((record { text = _; codes-are = f .0 }, omega (arith, f .1, l .few-tokens), omega (arith, f .1, l .more-counts)), (l .ordered, l .sized, c .before .before .before .before .before .before .before .before .before .before .before .before .before .before .before .before .before .before .before .before .pre .1))
+    let l = c .before .before .before .before .before .before .before .before .before .before .before .before .before .before .before .before .before
+    .before .before .before .pre .0 in
+    let f = first-codes _ [] (c .before .before .before .before .before .before .before .before .before .before .before .lex .ensures) (l .few-tokens)
+    (omega (
+      arith,
+      c .before .before .before .before .before .before .before .before .before .before .before .lex .ensures .same,
+      c .before .before
+          .before .before .before .before .before .before .if1 .left,
+    )) in (
+      (record { text = _; codes-are = f .0 }, omega (arith, f .1, l .few-tokens), omega (arith, f .1, l .more-counts)),
+      (
+        l .ordered,
+        l .sized,
+        c .before
+            .before .before .before .before .before .before .before .before .before .before .before .before .before .before .before .before .before .before
+            .before .pre .1,
+      ),
+    )
 
 same-length-3 : tie.Need-same-length-3
 same-length-3 c = search needs
@@ -63,9 +83,26 @@ same-length-8 c = search needs
 
 returns-3 : tie.Need-returns-3
 returns-3 c =
-    let l = c .before .before .before .before .before .before .before .before .before .before .before .before .before .before .before .before .before .before .before .before .before .before .before .before .before .before .before .before .before .before .before .pre .0 in
-    few-tried _ _ (c .before .before .before .before .before .before .before .before .before .before .before .before .before .before .before .before .before .before .before .before .before .before .lex .ensures) (l .few-tokens) _ (c .before .before .before .before .before .before .before .before .before .before .read-tokens .result) _ _ _ (omega (arith, c .before .before .before .before .before .before .before .before .before .before .before .before .before .before .before .before .before .before .before .before .before .before .lex .ensures .same, c .before .before .before .before .before .before .before .before .before .before .before .before .before .before .before .before .before .before .before .if1 .left))
-    (first-codes _ [] (c .before .before .before .before .before .before .before .before .before .before .before .before .before .before .before .before .before .before .before .before .before .before .lex .ensures) (l .few-tokens) (omega (arith, c .before .before .before .before .before .before .before .before .before .before .before .before .before .before .before .before .before .before .before .before .before .before .lex .ensures .same, c .before .before .before .before .before .before .before .before .before .before .before .before .before .before .before .before .before .before .before .if1 .left)) .0) (c .before .before .before .before .before .before .before .before .before .before .read-tokens .ensures)
+    let l = c .before .before .before .before .before .before .before .before .before .before .before .before .before .before .before .before .before
+    .before .before .before .before .before .before .before .before .before .before .before .before .before .before .pre .0 in
+    few-tried _ _ (c .before .before .before .before .before .before .before .before .before .before .before .before .before .before .before .before
+    .before .before .before .before .before .before .lex .ensures) (l .few-tokens) _ (c .before .before .before .before .before .before .before
+    .before .before .before .read-tokens .result) _ _ _ (omega (
+      arith,
+      c .before .before .before .before .before .before .before .before .before
+          .before .before .before .before .before .before .before .before .before .before .before .before .before .lex .ensures .same,
+      c .before .before
+          .before .before .before .before .before .before .before .before .before .before .before .before .before .before .before .before .before .if1 .left,
+    ))
+    (first-codes _ [] (c .before .before .before .before .before .before .before .before .before .before .before .before .before .before .before .before
+    .before .before .before .before .before .before .lex .ensures) (l .few-tokens) (omega (
+      arith,
+      c .before .before .before .before .before .before
+          .before .before .before .before .before .before .before .before .before .before .before .before .before .before .before .before .lex .ensures
+          .same,
+      c .before .before .before .before .before .before .before .before .before .before .before .before .before .before .before .before .before
+          .before .before .if1 .left,
+    )) .0) (c .before .before .before .before .before .before .before .before .before .before .read-tokens .ensures)
 
 pub read-into-spec : {M : Type 1} → statement M
 read-into-spec =

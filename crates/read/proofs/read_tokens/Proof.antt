@@ -19,15 +19,27 @@ known-requires : tie.Need-known-requires
 known-requires c κs = search needs
 
 tell-requires : tie.Need-tell-requires
-tell-requires c κs = c .before .before .before .before .before .before .before .before .before .before .before .before .before .before .before .before .before .before .before .before .before .before .before .before .before .before .pre .1 .2
+tell-requires c κs = c .before .before .before .before .before .before .before .before .before .before .before .before .before .before .before .before
+    .before .before .before .before .before .before .before .before .before .before .pre .1 .2
 
 enum-known-outcome-2 : tie.Need-enum-known-outcome-2
 enum-known-outcome-2 c = search needs
 
 write-requires : tie.Need-write-requires
 write-requires c κs =
-    let m = c .before .before .before .before .before .before .before .before .before .before .before .before .before .before .before .before .before .before .before .before .before .before .before .before .before .before .before .before .before .pre .1 .1 .most-words in
-    (plan-in-arrays (c .before .before .before .before .before .before .before .before .before .before .before .before .before .before .before .before .before .before .before .before .before .before .before .before .before .before .before .before .before .pre .0 .0) (c .before .before .before .before .before .before .before .before .before .before .before .before .before .before .before .before .read-plan .ensures) (c .before .before .before .before .before .before .outcome2 .given .1) (omega (arith, c .before .before .before .before .before .before .before .before .before .before .before .before .before .words .given)), c .before .before .before .before .before .before .before .before .before .before .before .before .before .before .before .before .before .before .before .before .before .before .before .before .before .before .before .before .before .pre .1 .2)
+    let m = c .before .before .before .before .before .before .before .before .before .before .before .before .before .before .before .before .before
+    .before .before .before .before .before .before .before .before .before .before .before .before .pre .1 .1 .most-words in (
+      plan-in-arrays (c .before .before .before .before .before .before .before .before .before .before .before .before .before .before .before .before
+          .before .before .before .before .before .before .before .before .before .before .before .before .before .pre .0 .0) (c .before .before .before
+          .before .before .before .before .before .before .before .before .before .before .before .before .before .read-plan .ensures) (c .before .before
+          .before .before .before .before .outcome2 .given .1) (omega (
+            arith,
+            c .before .before .before .before .before .before .before .before .before
+                .before .before .before .before .words .given,
+          )),
+      c .before .before .before .before .before .before .before .before .before .before .before .before
+          .before .before .before .before .before .before .before .before .before .before .before .before .before .before .before .before .before .pre .1 .2,
+    )
 
 enum-told : tie.Need-enum-told
 enum-told c = search needs
@@ -45,7 +57,8 @@ same-length-4 : tie.Need-same-length-4
 same-length-4 c = search needs
 
 returns : tie.Need-returns
-returns c = inr (fault-tokens (c .before .before .before .before .before .before .before .before .before .before .before .before .before .before .read-plan .ensures) (c .before .before .before .before .outcome .given .1) (c .before .known .ensures) (c .tell .ensures))
+returns c = inr (fault-tokens (c .before .before .before .before .before .before .before .before .before .before .before .before .before .before
+    .read-plan .ensures) (c .before .before .before .before .outcome .given .1) (c .before .known .ensures) (c .tell .ensures))
 
 same-length-5 : tie.Need-same-length-5
 same-length-5 c = search needs
@@ -63,7 +76,9 @@ same-length-9 : tie.Need-same-length-9
 same-length-9 c = search needs
 
 returns-2 : tie.Need-returns-2
-returns-2 c = inl (plan-tokens (c .before .before .before .before .before .before .before .before .before .before .before .before .before .before .before .before .before .before .before .read-plan .ensures) (c .before .before .before .before .before .before .before .before .before .outcome2 .given .1) (c .before .before .write .ensures))
+returns-2 c = inl (plan-tokens (c .before .before .before .before .before .before .before .before .before .before .before .before .before .before .before
+    .before .before .before .before .read-plan .ensures) (c .before .before .before .before .before .before .before .before .before .outcome2 .given .1)
+    (c .before .before .write .ensures))
 
 same-length-10 : tie.Need-same-length-10
 same-length-10 c = search needs
@@ -78,7 +93,14 @@ same-length-13 : tie.Need-same-length-13
 same-length-13 c = search needs
 
 returns-3 : tie.Need-returns-3
-returns-3 c = let h = full-short (c .before .before .before .before .before .before .before .before .before .before .read-plan .ensures) (c .enum-told .given .1) in (omega (arith, c .before .before .before .before .before .before .before .words .given), refl, c .before .before .before .before .before .before .before .before .before .before .before .before .before .before .before .before .before .before .before .before .before .before .before .pre .1 .2)
+returns-3 c = let h = full-short (c .before .before .before .before .before .before .before .before .before .before .read-plan .ensures) (c .enum-told
+    .given .1) in (
+      omega (arith, c .before .before .before .before .before .before .before .words .given),
+      refl,
+      c .before .before .before .before .before
+          .before .before .before .before .before .before .before .before .before .before .before .before .before .before .before .before
+              .before .before .pre .1 .2,
+    )
 
 pub read-tokens-spec : {M : Type 1} → statement M
 read-tokens-spec =

@@ -29,7 +29,12 @@ tell-requires : tie.Need-tell-requires
 tell-requires c κs = c .before .before .before .before .pre .1
 
 returns : tie.Need-returns
-returns c = inl (record { short = rw (plan-length (c .before .before .before .before .before .pre .0)) (c .before .before .if1 .taken); kept = refl; told-is = c .tell .ensures })
+returns c = inl (record {
+  short = rw (plan-length (c .before .before .before .before .before .pre .0)) (c .before .before .if1
+      .taken);
+  kept = refl;
+  told-is = c .tell .ensures;
+})
 
 write-requires : tie.Need-write-requires
 write-requires c κs = writable (c .before .before .before .before .pre .0) (c .before .if1 .left)
@@ -38,7 +43,8 @@ tell-requires-2 : tie.Need-tell-requires-2
 tell-requires-2 c κs = c .before .before .before .before .before .before .before .before .pre .1
 
 same-length : tie.Need-same-length
-same-length c = ap length (c .before .before .before .before .write .ensures) ∙ overwrite-length _ _ (rw (plan-length (c .before .before .before .before .before .before .before .before .before .pre .0)) (c .before .before .before .before .before .before .if1 .left))
+same-length c = ap length (c .before .before .before .before .write .ensures) ∙ overwrite-length _ _ (rw (plan-length (c .before .before .before .before
+    .before .before .before .before .before .pre .0)) (c .before .before .before .before .before .before .if1 .left))
 
 returns-2 : tie.Need-returns-2
 returns-2 c =

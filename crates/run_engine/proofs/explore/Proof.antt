@@ -62,7 +62,8 @@ use Rattle.run_engine.proofs.explore.Statement.{statement}
 use Rattle.run_engine.proofs.explore.Tie as tie
 
 abbrev Inv-loop2 : tie.InvT-loop2
-Inv-loop2 words roots setting every picks notes log₀ heads₀ cells₀ objects₀ places₀ lists₀ stack₀ passed₀ tally₀ halt₀ dealt₀ moves-before₀ records-before₀ threads
+Inv-loop2 words roots setting every picks notes log₀ heads₀ cells₀ objects₀ places₀ lists₀ stack₀ passed₀ tally₀ halt₀ dealt₀ moves-before₀ records-before₀
+    threads
     lowest from to i₀ log heads cells objects places lists stack passed tally halt dealt moves-before records-before i =
     (from ≤ i) × (i ≤ to) × (dealt ≡ to)
     × ((first : List ℕ)
@@ -72,29 +73,34 @@ Inv-loop2 words roots setting every picks notes log₀ heads₀ cells₀ objects
     × Right words lists
 
 abbrev μ-loop2 : tie.MeasureT-loop2
-μ-loop2 words roots setting every picks notes log₀ heads₀ cells₀ objects₀ places₀ lists₀ stack₀ passed₀ tally₀ halt₀ dealt₀ moves-before₀ records-before₀ threads
+μ-loop2 words roots setting every picks notes log₀ heads₀ cells₀ objects₀ places₀ lists₀ stack₀ passed₀ tally₀ halt₀ dealt₀ moves-before₀ records-before₀
+    threads
     lowest from to i₀ log heads cells objects places lists stack passed tally halt dealt moves-before records-before i =
     to - i
 
 abbrev Inv-loop3 : tie.InvT-loop3
-Inv-loop3 words roots setting every picks notes log heads cells objects places lists stack passed tally halt dealt moves-before records-before threads₀ lowest from
+Inv-loop3 words roots setting every picks notes log heads cells objects places lists stack passed tally halt dealt moves-before records-before threads₀
+    lowest from
     to counts thread₀ threads thread =
     (thread ≤ 8) × (turns (putThread counts heads (map restoreOf cells) objects places setting) (8 - thread) thread threads
     ≡ threadsOf setting counts heads (map restoreOf cells) objects places)
 
 abbrev μ-loop3 : tie.MeasureT-loop3
-μ-loop3 words roots setting every picks notes log heads cells objects places lists stack passed tally halt dealt moves-before records-before threads₀ lowest from
+μ-loop3 words roots setting every picks notes log heads cells objects places lists stack passed tally halt dealt moves-before records-before threads₀
+    lowest from
     to counts thread₀ threads thread =
     8 - thread
 
 abbrev Inv-loop : tie.InvT-loop
-Inv-loop words roots setting every picks notes₀ log₀ heads₀ cells₀ objects₀ places₀ lists₀ stack₀ passed₀ tally₀ halt₀ moves-before₀ records-before₀ threads₀ lowest₀
+Inv-loop words roots setting every picks notes₀ log₀ heads₀ cells₀ objects₀ places₀ lists₀ stack₀ passed₀ tally₀ halt₀ moves-before₀ records-before₀
+    threads₀ lowest₀
     from₀ to₀ notes log heads cells objects places lists stack passed tally halt moves-before records-before threads lowest from to =
     Standing words roots setting every log₀ (allPicks picks notes) from log heads cells objects places stack passed tally halt moves-before records-before
     × Round words roots setting every log₀ picks notes₀ notes lowest from to × (length threads ≡ 8) × Right words lists
 
 abbrev μ-loop : tie.MeasureT-loop
-μ-loop words roots setting every picks notes₀ log₀ heads₀ cells₀ objects₀ places₀ lists₀ stack₀ passed₀ tally₀ halt₀ moves-before₀ records-before₀ threads₀ lowest₀
+μ-loop words roots setting every picks notes₀ log₀ heads₀ cells₀ objects₀ places₀ lists₀ stack₀ passed₀ tally₀ halt₀ moves-before₀ records-before₀ threads₀
+    lowest₀
     from₀ to₀ notes log heads cells objects places lists stack passed tally halt moves-before records-before threads lowest from to =
     length notes - to
 

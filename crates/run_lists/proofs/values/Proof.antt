@@ -48,7 +48,12 @@ loop-again c =
     let e = c .before .before .args .environment in
     let h = value-below e (l .codes % 64) in
     let t = c .loop-test .taken in
-    rw (value-shl _ (l .place) h t) (omega (arith, t), value-lt (l .values) _ (l .place) (l .inv .1) h, value-more (l .values) (l .place) e (l .codes) t ∙ l .inv .2)
+    rw (value-shl _ (l .place) h t) (
+      omega (arith, t),
+      value-lt (l .values) _ (l .place) (l .inv .1) h,
+      value-more (l .values) (l .place) e (l
+          .codes) t ∙ l .inv .2,
+    )
 
 returns : tie.Need-returns Inv-loop μ-loop
 unfolding valuesOf

@@ -167,7 +167,13 @@ loop-again c =
 
 step-requires : tie.Need-step-requires Inv-loop μ-loop
 step-requires c κs =
-    let l = c .before .before .before .before .before in (l .loop .inv .1, l .loop .inv .0, c .before .before .before .before .loop-test .taken, l .loop .inv .6)
+    let l = c .before .before .before .before .before in (
+      l .loop .inv .1,
+      l .loop .inv .0,
+      c .before .before .before .before .loop-test .taken,
+      l .loop
+          .inv .6,
+    )
 
 add-store : tie.Need-add-store Inv-loop μ-loop
 add-store c = record { fits = omega (arith, place (c .before .before .before .before .before .before)) }
@@ -200,7 +206,16 @@ loop-again-2 c =
     ∙ sym (goes (aheadOf (l .loop .left) ws o .left) ws (roots l) (l .loop .base) k (alongOf (l .loop .left) ws g) d
     (ahead-left (o .stage) (l .loop .left) ws o h .0) (along-live (o .stage) g (aheadOf (l .loop .left) ws o .frame) a))
     ∙ sym (along-refocuses ws (roots l) (l .loop .base) k d (l .loop .left) g h a (o .stage) refl) in
-    let i = l .loop .inv in (inside s .0, i .1, i .2, i .3, i .4, ap (afterOf ws (roots l) (l .loop .more) (second l) (l .loop .before)) e ∙ i .5, s .step .ensures .1)
+    let i = l .loop .inv in (
+      inside s .0,
+      i .1,
+      i .2,
+      i .3,
+      i .4,
+      ap (afterOf ws (roots l) (l .loop .more) (second l) (l .loop .before)) e ∙ i .5,
+      s .step
+          .ensures .1,
+    )
 
 full-requires-2 : tie.Need-full-requires-2 Inv-loop μ-loop
 full-requires-2 c κs = search needs

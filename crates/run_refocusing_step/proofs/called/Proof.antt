@@ -64,7 +64,11 @@ module _ (ws rs : List ℕ) (f : Frame) (t n left : ℕ) (e : t ≡ toldOf ws (f
   gathers : calledOf ws rs left f ≡ record { left = left - n; go = callOf rs f (f .arguments + valuesOf 8 (f .environment) t * 2 ^ (f .count * 5)) }
   gathers =
       gathers-told ws rs 8 head left f (whole .0, rw (← all) l, rw (← all) c, a)
-      ∙ ap (λ (m : ℕ). record { left = left - m; go = callOf rs f (f .arguments + valuesOf 8 (f .environment) (codesFrom 8 ws (f .first) head) * 2 ^ (f .count * 5)) }) (sym all)
+      ∙ ap (λ (m : ℕ). record {
+        left = left - m;
+        go = callOf rs f (f .arguments + valuesOf 8 (f .environment) (codesFrom 8 ws (f .first) head) * 2 ^ (f
+            .count * 5));
+      }) (sym all)
       ∙ ap (λ (x : ℕ). record { left = left - n; go = callOf rs f (f .arguments + valuesOf 8 (f .environment) x * 2 ^ (f .count * 5)) }) (sym codes)
 
 word-requires : tie.Need-word-requires

@@ -37,7 +37,8 @@ same-length-4 : tie.Need-same-length-4
 same-length-4 c = search needs
 
 returns : tie.Need-returns
-returns c = plan-text _ (c .before .before .before .before .before .before .before .before .before .before .before .before .before .before .before .before .put-plan .ensures) (c .before .before .before .before .before .before .write .ensures)
+returns c = plan-text _ (c .before .before .before .before .before .before .before .before .before .before .before .before .before .before .before .before
+    .put-plan .ensures) (c .before .before .before .before .before .before .write .ensures)
 
 pub show-by-spec : {M : Type 1} → statement M
 show-by-spec =

@@ -48,7 +48,11 @@ same-length-5 : tie.Need-same-length-5
 same-length-5 c = search needs
 
 returns-2 : tie.Need-returns-2
-returns-2 c = room-text (c .before .before .before .before .before .before .before .before .before .lay-within .ensures) (omega (arith, c .before .before .before .before .before .before .if1 .left)) (c .before .before .copy .ensures)
+returns-2 c = room-text (c .before .before .before .before .before .before .before .before .before .lay-within .ensures) (omega (
+  arith,
+  c .before .before
+      .before .before .before .before .if1 .left,
+)) (c .before .before .copy .ensures)
 
 pub write-spec : {M : Type 1} → statement M
 write-spec =

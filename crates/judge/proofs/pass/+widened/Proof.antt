@@ -61,4 +61,5 @@ module _ (t : ℕ) where
 pub +widened-spec : {M : Type 1} → statement M
 +widened-spec =
     close μ-widened
-    (λ t. lts.spec (calls t) (given t) widened.Post (by-either-requires t) (full-requires t) (widened-requires t) (returns t) (judgement-requires t) (returns-2 t))
+    (λ t. lts.spec (calls t) (given t) widened.Post (by-either-requires t) (full-requires t) (widened-requires t) (returns t) (judgement-requires t)
+    (returns-2 t))

@@ -20,7 +20,8 @@ go-requires c κs = search needs
 returns : tie.Need-returns
 returns c =
     let pre = c .before .before .before .before .before .before .before .before .before .before .before .before .pre in
-    λ words. turns-on _ _ _ _ _ (pre .0) words _ (fields-goal _ (search needs) (search needs)) _ _ _ _ _ _ _ _ _ (c .before .before .before .before .go .ensures)
+    λ words. turns-on _ _ _ _ _ (pre .0) words _ (fields-goal _ (search needs) (search needs)) _ _ _ _ _ _ _ _ _ (c .before .before .before .before .go
+    .ensures)
     (λ counts. record {
       does = fields-end counts _ _ (omega arith);
       slight = search needs;
@@ -102,16 +103,25 @@ go-on-requires c κs = search needs
 
 returns-5 : tie.Need-returns-5
 returns-5 c =
-    let m = mask-small _ _ _ _ (c .before .before .before .before .before .before .before .before .before .before .before .before .before .before .before .before .before .before .pre .3)
-    (c .before .before .before .before .before .before .before .before .last .ensures) (c .before .before .before .before .before .before .before .number .ensures) in
+    let m = mask-small _ _ _ _ (c .before .before .before .before .before .before .before .before .before .before .before .before .before .before .before
+    .before .before .before .pre .3)
+    (c .before .before .before .before .before .before .before .before .last .ensures) (c .before .before .before .before .before .before .before .number
+    .ensures) in
     let t = c .before .before .before .before .before .before .before .before .before .before .before .before .before .before .token .ensures .0 in
     let a = c .before .before .before .before .before .before .before .before .before .before .before .if3 .left in
     let b = c .before .before .before .before .before .before .before .before .before .before .if4 .left in
-    λ words. turns-on _ _ _ _ _ (c .before .before .before .before .before .before .before .before .before .before .before .before .before .before .before .before .before .before .pre .0) words _
+    λ words. turns-on _ _ _ _ _ (c .before .before .before .before .before .before .before .before .before .before .before .before .before .before .before
+    .before .before .before .pre .0) words _
     (fields-goal _ (search needs) (search needs)) _ _ _ _ _ _ _ _ _ (c .before .before .before .before .go-on .ensures)
-    (λ counts. rw (shift-is (c .before .before .before .before .before .before .before .before .before .before .before .before .before .before .token .result)) (record {
-      does = rw t (fields-field counts _ _ _ (rw (c .before .before .before .before .before .before .before .number .ensures, c .before .before .before .before .before .before .before .before .last .ensures))
-          (search needs) (search needs) (λ e. c .before .before .before .before .before .before .before .before .before .before .before .before .before .if1 .left (t ∙ e)) (omega arith)
+    (λ counts. rw (shift-is (c .before .before .before .before .before .before .before .before .before .before .before .before .before .before .token
+    .result)) (record {
+      does = rw t (fields-field counts _ _ _ (rw (
+        c .before .before .before .before .before .before .before .number .ensures,
+        c .before .before .before
+            .before .before .before .before .before .last .ensures,
+      ))
+          (search needs) (search needs) (λ e. c .before .before .before .before .before .before .before .before .before .before .before .before .before
+          .if1 .left (t ∙ e)) (omega arith)
           (omega arith));
       slight = search needs;
     }))

@@ -56,7 +56,8 @@ go-requires c κs = search needs
 returns-3 : tie.Need-returns-3
 returns-3 c =
     let pre = c .before .before .before .before .before .before .before .before .before .before .before .before .before .before .before .before .before .pre in
-    let shared-slice-known2 = c .before .before .before .before .before .before .before .before .before .before .before .before .before .before .before .shared-slice-known2 in
+    let shared-slice-known2 = c .before .before .before .before .before .before .before .before .before .before .before .before .before .before .before
+    .shared-slice-known2 in
     let token = c .before .before .before .before .before .before .before .before .before .before .before .before .token in
     let wide = c .before .before .before .before .before .before .before .before .wide in
     let if3 = c .before .before .before .before .before .before .before .if3 in
@@ -80,7 +81,8 @@ go-on-requires c κs = search needs
 returns-4 : tie.Need-returns-4
 returns-4 c =
     let pre = c .before .before .before .before .before .before .before .before .before .before .before .before .before .before .before .before .before .pre in
-    let shared-slice-known2 = c .before .before .before .before .before .before .before .before .before .before .before .before .before .before .before .shared-slice-known2 in
+    let shared-slice-known2 = c .before .before .before .before .before .before .before .before .before .before .before .before .before .before .before
+    .shared-slice-known2 in
     let wide = c .before .before .before .before .before .before .before .before .wide in
     let if3 = c .before .before .before .before .before .before .before .if3 in
     let token = c .before .before .before .before .before .before .before .before .before .before .before .before .token in

@@ -39,7 +39,8 @@ go-requires c κs = search needs
 returns-3 : tie.Need-returns-3
 returns-3 c =
     let pre = c .before .before .before .before .before .before .before .before .before .before .before .before .before .pre in
-    λ words e. turns-on _ _ _ _ _ (pre .0) words _ (more-goal _ (search needs) (search needs)) _ _ _ _ _ _ _ _ _ (c .before .before .before .before .go .ensures)
+    λ words e. turns-on _ _ _ _ _ (pre .0) words _ (more-goal _ (search needs) (search needs)) _ _ _ _ _ _ _ _ _ (c .before .before .before .before .go
+    .ensures)
     (λ counts. record {
       does = and-goes counts _ _ (search needs) (search needs) e (omega arith) (search needs);
       slight = search needs;

@@ -69,7 +69,8 @@ returns-5 c =
     let if1 = c .before .before .before .before .before .before .before .before .before .before .if1 in
     let token = c .before .before .before .before .before .before .before .before .before .before .before .token in
     let if4 = c .before .before .before .before .before .before .before .if4 in
-    λ words e. turns-on _ _ _ _ _ (pre .0) words _ (more-goal _ (search needs) (search needs)) _ _ _ _ _ _ _ _ _ (c .before .before .before .before .go .ensures)
+    λ words e. turns-on _ _ _ _ _ (pre .0) words _ (more-goal _ (search needs) (search needs)) _ _ _ _ _ _ _ _ _ (c .before .before .before .before .go
+    .ensures)
     (λ counts. record {
       does = equal-goes counts _ _ (search needs) (search needs) e (λ z. if1 .left (token .ensures .0 ∙ z)) (omega arith) (search needs) (if4 .left);
       slight = search needs;

@@ -51,7 +51,8 @@ returns-3 c =
     let pre = c .before .before .before .before .before .before .before .before .before .before .before .before .before .before .before .pre in
     let token = c .before .before .before .before .before .before .before .before .before .before .token in
     let if1 = c .before .before .before .before .before .before .before .before .before .if1 in
-    λ words e. turns-on _ _ _ _ _ (pre .0 .0) words _ (more-goal _ (search needs) (search needs)) _ _ _ _ _ _ _ _ _ (c .before .before .before .before .go .ensures)
+    λ words e. turns-on _ _ _ _ _ (pre .0 .0) words _ (more-goal _ (search needs) (search needs)) _ _ _ _ _ _ _ _ _ (c .before .before .before .before .go
+    .ensures)
     (λ counts. record {
       does = rw (token .ensures .0) (dot-tight counts _ _ (search needs) (search needs) e (pre .1) (λ z. if1 .left (token .ensures .0 ∙ z))
           (omega arith) (search needs));
@@ -72,10 +73,12 @@ go-requires-2 c κs = search needs
 
 returns-4 : tie.Need-returns-4
 returns-4 c =
-    let pre = c .before .before .before .before .before .before .before .before .before .before .before .before .before .before .before .before .before .before .pre in
+    let pre = c .before .before .before .before .before .before .before .before .before .before .before .before .before .before .before .before .before
+    .before .pre in
     let token = c .before .before .before .before .before .before .before .before .before .before .before .before .before .token in
     let if1 = c .before .before .before .before .before .before .before .before .before .before .before .before .if1 in
-    λ words e. turns-on _ _ _ _ _ (pre .0 .0) words _ (more-goal _ (search needs) (search needs)) _ _ _ _ _ _ _ _ _ (c .before .before .before .before .go2 .ensures)
+    λ words e. turns-on _ _ _ _ _ (pre .0 .0) words _ (more-goal _ (search needs) (search needs)) _ _ _ _ _ _ _ _ _ (c .before .before .before .before
+    .go2 .ensures)
     (λ counts. record {
       does = rw (token .ensures .0) (dot-writes counts _ _ (search needs) (search needs) e (pre .1) (λ z. if1 .left (token .ensures .0 ∙ z))
           (omega arith) (search needs) (omega arith));
@@ -96,11 +99,13 @@ returns-5 c =
     let h = c .before .before .before .before .before .before .before .before .before .before .before .if2 .left in
     let q = c .before .before .before .before .before .before .before .if4 .left in
     λ words e. turns-on _ _ _ _ _
-    (c .before .before .before .before .before .before .before .before .before .before .before .before .before .before .before .before .before .before .pre .0 .0) words _ (more-goal _
+    (c .before .before .before .before .before .before .before .before .before .before .before .before .before .before .before .before .before .before
+    .pre .0 .0) words _ (more-goal _
     (search needs) (search needs)) _ _ _ _ _ _ _ _ _ (c .before .before .before .before .go3 .ensures)
     (λ counts. record {
       does = rw t (dot-reads counts _ _ (search needs) (search needs) e
-          (c .before .before .before .before .before .before .before .before .before .before .before .before .before .before .before .before .before .before .pre .1) (λ z. p (t ∙ z)) (omega arith)
+          (c .before .before .before .before .before .before .before .before .before .before .before .before .before .before .before .before .before
+          .before .pre .1) (λ z. p (t ∙ z)) (omega arith)
           (search needs) (λ z. q (u ∙ z)));
       slight = search needs;
     })

@@ -36,7 +36,8 @@ returns-2 : tie.Need-returns-2
 returns-2 c =
     let pre = c .before .before .before .before .before .before .before .before .before .before .before .before .before .pre in
     let token = c .before .before .before .before .before .before .before .before .before .token in
-    λ words. turns-on _ _ _ _ _ (pre .0) words _ (operand-goal _ (search needs) (search needs)) _ _ _ _ _ _ _ _ _ (c .before .before .before .before .go .ensures)
+    λ words. turns-on _ _ _ _ _ (pre .0) words _ (operand-goal _ (search needs) (search needs)) _ _ _ _ _ _ _ _ _ (c .before .before .before .before .go
+    .ensures)
     (λ counts. record {
       does = rw (token .ensures .0) (operand-variable counts _ _ (search needs) (search needs) (omega arith) (omega arith));
       slight = search needs;
@@ -87,7 +88,8 @@ returns-6 : tie.Need-returns-6
 returns-6 c =
     let pre = c .before .before .before .before .before .before .before .before .before .before .before .before .before .before .before .before .before .pre in
     let if6 = c .before .before .before .before .before .before .before .if6 in
-    λ words. turns-on _ _ _ _ _ (pre .0) words _ (operand-goal _ (search needs) (search needs)) _ _ _ _ _ _ _ _ _ (c .before .before .before .before .go2 .ensures)
+    λ words. turns-on _ _ _ _ _ (pre .0) words _ (operand-goal _ (search needs) (search needs)) _ _ _ _ _ _ _ _ _ (c .before .before .before .before .go2
+    .ensures)
     (λ counts. record {
       does = operand-group counts _ _ (search needs) (search needs) (omega arith) (if6 .taken);
       slight = search needs;
@@ -103,7 +105,8 @@ returns-7 : tie.Need-returns-7
 returns-7 c =
     let pre = c .before .before .before .before .before .before .before .before .before .before .before .before .before .before .before .before .before .pre in
     let if6 = c .before .before .before .before .before .before .before .if6 in
-    λ words. turns-on _ _ _ _ _ (pre .0) words _ (operand-goal _ (search needs) (search needs)) _ _ _ _ _ _ _ _ _ (c .before .before .before .before .go3 .ensures)
+    λ words. turns-on _ _ _ _ _ (pre .0) words _ (operand-goal _ (search needs) (search needs)) _ _ _ _ _ _ _ _ _ (c .before .before .before .before .go3
+    .ensures)
     (λ counts. record {
       does = operand-either counts _ _ (search needs) (search needs) (omega arith) (if6 .left);
       slight = search needs;

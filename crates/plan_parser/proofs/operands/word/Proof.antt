@@ -89,7 +89,8 @@ go-requires c κs =
 
 returns-3 : tie.Need-returns-3
 returns-3 c =
-    let pre = c .before .before .before .before .before .before .before .before .before .before .before .before .before .before .before .before .before .before .before .before .pre in
+    let pre = c .before .before .before .before .before .before .before .before .before .before .before .before .before .before .before .before .before
+    .before .before .before .pre in
     let token = c .before .before .before .before .before .before .before .before .before .before .before .before .before .before .before .token in
     let form-of = c .before .before .before .before .before .before .before .before .before .before .before .before .before .before .form-of in
     let binding = c .before .before .before .before .before .before .before .before .before .before .before .before .before .binding in
@@ -99,7 +100,8 @@ returns-3 c =
     let value-of = c .before .before .before .before .before .before .before .before .value-of in
     let goals = c .before .before .before .before .before .goals in
     let f = (rw (pre .1 .0, token .ensures .0) at (form-of .ensures)) in
-    λ words. turns-on _ _ _ _ _ (pre .0 .0) words _ (operand-goal _ (search needs) (search needs)) _ _ _ _ _ _ _ _ _ (c .before .before .before .before .go .ensures)
+    λ words. turns-on _ _ _ _ _ (pre .0 .0) words _ (operand-goal _ (search needs) (search needs)) _ _ _ _ _ _ _ _ _ (c .before .before .before .before
+    .go .ensures)
     (λ counts. word-goes counts _ _ _ (search needs) (search needs) (omega arith) (omega arith) f _ (binding .ensures) (search needs) (rw
     (if2 .left) at (misplaced .ensures)) _ _ _ (taken-by .ensures)
     (value-of .ensures) (goals .ensures))

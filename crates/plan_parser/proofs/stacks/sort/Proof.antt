@@ -19,13 +19,16 @@ returns-2 : tie.Need-returns-2
 returns-2 c = first-sort _ _ _ (search needs) (c .before .tag .ensures ∙ ap tagOf (c .before .before .word .ensures)) (search needs)
 
 returns-3 : tie.Need-returns-3
-returns-3 c = second-sort _ _ _ (search needs) (c .before .before .tag .ensures ∙ ap tagOf (c .before .before .before .word .ensures)) (search needs) (search needs)
+returns-3 c = second-sort _ _ _ (search needs) (c .before .before .tag .ensures ∙ ap tagOf (c .before .before .before .word .ensures)) (search needs)
+    (search needs)
 
 returns-4 : tie.Need-returns-4
-returns-4 c = third-sort _ _ _ (search needs) (c .before .before .before .tag .ensures ∙ ap tagOf (c .before .before .before .before .word .ensures)) (search needs) (search needs)
+returns-4 c = third-sort _ _ _ (search needs) (c .before .before .before .tag .ensures ∙ ap tagOf (c .before .before .before .before .word .ensures))
+    (search needs) (search needs)
 
 returns-5 : tie.Need-returns-5
-returns-5 c = last-sort _ _ _ (search needs) (c .before .before .before .tag .ensures ∙ ap tagOf (c .before .before .before .before .word .ensures)) (search needs)
+returns-5 c = last-sort _ _ _ (search needs) (c .before .before .before .tag .ensures ∙ ap tagOf (c .before .before .before .before .word .ensures))
+    (search needs)
 
 pub sort-spec : {M : Type 1} → statement M
 sort-spec =

@@ -16,7 +16,8 @@ stack-digits-requires c κs = search needs
 
 returns : tie.Need-returns
 returns c = (
-  stacks-twice _ _ _ _ _ _ _ _ (stacks-twice _ _ _ _ _ _ _ _ (c .before .before .before .before .before .before .before .before .before .before .stack .ensures .0)
+  stacks-twice _ _ _ _ _ _ _ _ (stacks-twice _ _ _ _ _ _ _ _ (c .before .before .before .before .before .before .before .before .before .before .stack
+      .ensures .0)
       (c .before .before .before .before .before .before .stack2 .ensures .0)) (c .before .before .stack-digits .ensures .0),
   (search needs, search needs),
 )

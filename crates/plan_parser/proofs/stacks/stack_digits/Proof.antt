@@ -28,22 +28,30 @@ returns : tie.Need-returns
 unfolding unpacked
 returns c = (
   stacks-twice _ _ _ _ _ _ _ _ (stacks-twice _ _ _ _ _ _ _ _ (stacks-twice _ _ _ _ _ _ _ _
-      (stacks-twice _ _ _ _ _ _ _ _ (stacks-twice _ _ _ _ _ _ _ _ (c .before .before .before .before .before .before .before .before .before .before .before .before .before .before .before .before .before .before .before .before .before .before .stack
-      .ensures .0) (c .before .before .before .before .before .before .before .before .before .before .before .before .before .before .before .before .before .before .stack2 .ensures .0))
-      (c .before .before .before .before .before .before .before .before .before .before .before .before .before .before .stack3 .ensures .0)) (c .before .before .before .before .before .before .before .before .before .before .stack4 .ensures .0))
+      (stacks-twice _ _ _ _ _ _ _ _ (stacks-twice _ _ _ _ _ _ _ _ (c .before .before .before .before .before .before .before .before .before .before
+      .before .before .before .before .before .before .before .before .before .before .before .before .stack
+      .ensures .0) (c .before .before .before .before .before .before .before .before .before .before .before .before .before .before .before .before
+      .before .before .stack2 .ensures .0))
+      (c .before .before .before .before .before .before .before .before .before .before .before .before .before .before .stack3 .ensures .0)) (c .before
+      .before .before .before .before .before .before .before .before .before .stack4 .ensures .0))
       (c .before .before .before .before .before .before .stack5 .ensures .0)) (c .before .before .stack6 .ensures .0),
   omega (
     arith,
-    c .before .before .before .before .before .before .before .before .before .before .before .before .before .before .before .before .before .before .before .before .before .before .stack .ensures .1,
-    c .before .before .before .before .before .before .before .before .before .before .before .before .before .before .before .before .before .before .stack2 .ensures .1,
+    c .before .before .before .before .before .before .before .before .before .before .before .before .before .before .before .before .before .before
+        .before .before .before .before .stack .ensures .1,
+    c .before .before .before .before .before .before .before .before .before .before .before .before .before .before .before .before .before .before
+        .stack2 .ensures .1,
     c .before .before .before .before .before .before .before .before .before .before .before .before .before .before .stack3 .ensures .1,
     c .before .before .before .before .before .before .before .before .before .before .stack4 .ensures .1,
     c .before .before .before .before .before .before .stack5 .ensures .1,
     c .before .before .stack6 .ensures .1,
   ),
-  six-few _ _ _ _ _ _ _ _ (c .before .before .before .before .before .before .before .before .before .before .before .before .before .before .before .before .before .before .before .before .before .before .stack .ensures .2)
-      (c .before .before .before .before .before .before .before .before .before .before .before .before .before .before .before .before .before .before .stack2 .ensures .2)
-      (c .before .before .before .before .before .before .before .before .before .before .before .before .before .before .stack3 .ensures .2) (c .before .before .before .before .before .before .before .before .before .before .stack4 .ensures .2)
+  six-few _ _ _ _ _ _ _ _ (c .before .before .before .before .before .before .before .before .before .before .before .before .before .before .before
+      .before .before .before .before .before .before .before .stack .ensures .2)
+      (c .before .before .before .before .before .before .before .before .before .before .before .before .before .before .before .before .before .before
+      .stack2 .ensures .2)
+      (c .before .before .before .before .before .before .before .before .before .before .before .before .before .before .stack3 .ensures .2) (c .before
+      .before .before .before .before .before .before .before .before .before .stack4 .ensures .2)
       (c .before .before .before .before .before .before .stack5 .ensures .2) (c .before .before .stack6 .ensures .2),
 )
 

@@ -9,7 +9,8 @@ operand-count-requires : tie.Need-operand-count-requires
 operand-count-requires c κs = search needs
 
 operand-requires : tie.Need-operand-requires
-operand-requires c κs = let k = count-known _ _ _ _ _ (c .before .before .before .before .pre) _ (c .before .operand-count .ensures) in let f = c .before .before .before .before .pre .few
+operand-requires c κs = let k = count-known _ _ _ _ _ (c .before .before .before .before .pre) _ (c .before .operand-count .ensures) in let f = c .before
+    .before .before .before .pre .few
     in (omega arith, omega arith)
 
 less-requires : tie.Need-less-requires
@@ -17,7 +18,8 @@ less-requires c κs = search needs
 
 operand-requires-2 : tie.Need-operand-requires-2
 operand-requires-2 c κs = let k = count-known _ _ _ _ _ (c .before .before .before .before .before .before .before .pre) _
-    (c .before .before .before .before .operand-count .ensures) in let e = c .less .ensures in let f = c .before .before .before .before .before .before .before .pre .few
+    (c .before .before .before .before .operand-count .ensures) in let e = c .less .ensures in let f = c .before .before .before .before .before .before
+    .before .pre .few
     in (omega arith, omega arith)
 
 less-requires-2 : tie.Need-less-requires-2
@@ -25,7 +27,8 @@ less-requires-2 c κs = search needs
 
 operand-requires-3 : tie.Need-operand-requires-3
 operand-requires-3 c κs = let k = count-known _ _ _ _ _ (c .before .before .before .before .before .before .before .before .before .before .pre) _
-    (c .before .before .before .before .before .before .before .operand-count .ensures) in let e = c .less2 .ensures in let f = c .before .before .before .before .before .before .before .before .before .before .pre .few in (omega arith, omega arith)
+    (c .before .before .before .before .before .before .before .operand-count .ensures) in let e = c .less2 .ensures in let f = c .before .before .before
+    .before .before .before .before .before .before .before .pre .few in (omega arith, omega arith)
 
 sub-place : tie.Need-sub-place
 sub-place c = let s = c .before .before .before .before .before .before .before .before .before .before .before .pre .some-left in omega arith
@@ -40,7 +43,8 @@ mul-words : tie.Need-mul-words
 mul-words c = search needs
 
 slice-write-words : tie.Need-slice-write-words
-slice-write-words c = let s = c .before .before .before .before .before .before .before .before .before .before .before .before .pre .some-left in let t = c .before .before .before .before .before .before .before .before .before .before .before .before .pre .few-left in omega arith
+slice-write-words c = let s = c .before .before .before .before .before .before .before .before .before .before .before .before .pre
+    .some-left in let t = c .before .before .before .before .before .before .before .before .before .before .before .before .pre .few-left in omega arith
 
 sub-rest : tie.Need-sub-rest
 sub-rest c = let k = count-known _ _ _ _ _ (c .before .before .before .before .before .before .before .before .before .before .before .before .pre) _
@@ -51,7 +55,8 @@ mul-values c = search needs
 
 slice-write-values : tie.Need-slice-write-values
 slice-write-values c = let k = count-known _ _ _ _ _ (c .before .before .before .before .before .before .before .before .before .before .before .before .pre) _
-    (c .before .before .before .before .before .before .before .before .before .operand-count .ensures) in let f = c .before .before .before .before .before .before .before .before .before .before .before .before .pre .few in omega arith
+    (c .before .before .before .before .before .before .before .before .before .operand-count .ensures) in let f = c .before .before .before .before
+    .before .before .before .before .before .before .before .before .pre .few in omega arith
 
 add-result : tie.Need-add-result
 add-result c = search needs

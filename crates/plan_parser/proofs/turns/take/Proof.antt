@@ -24,7 +24,8 @@ expect-requires c κs =
 
 returns : tie.Need-returns
 returns c =
-    let shared-slice-known2 = c .before .before .before .before .before .before .before .before .before .before .before .before .before .before .shared-slice-known2 in
+    let shared-slice-known2 = c .before .before .before .before .before .before .before .before .before .before .before .before .before .before
+    .shared-slice-known2 in
     let pre = c .before .before .before .before .before .before .before .before .before .before .before .before .before .before .before .before .pre in
     c .before .before .before .before .expect .ensures _ _ (λ i. omega (arith, shared-slice-known2 .given i)) (pre .0)
 
@@ -42,7 +43,8 @@ make-requires c κs =
 returns-2 : tie.Need-returns-2
 returns-2 c =
     let pre = c .before .before .before .before .before .before .before .before .before .before .before .before .before .before .before .before .before .pre in
-    let shared-slice-known2 = c .before .before .before .before .before .before .before .before .before .before .before .before .before .before .before .shared-slice-known2 in
+    let shared-slice-known2 = c .before .before .before .before .before .before .before .before .before .before .before .before .before .before .before
+    .shared-slice-known2 in
     let goal = c .before .before .before .before .before .before .before .before .before .goal in
     turns-made _ _ _ _ _ _ (pre .0) (pre .1) (λ i. omega (arith, shared-slice-known2 .given i)) _ (goal .ensures) (search needs)
     (search needs) (pre .2) _ _ _ (c .before .before .before .before .make .ensures)
@@ -52,8 +54,10 @@ operand-requires c κs = search needs
 
 returns-3 : tie.Need-returns-3
 returns-3 c =
-    let shared-slice-known2 = c .before .before .before .before .before .before .before .before .before .before .before .before .before .before .before .before .shared-slice-known2 in
-    let pre = c .before .before .before .before .before .before .before .before .before .before .before .before .before .before .before .before .before .before .pre in
+    let shared-slice-known2 = c .before .before .before .before .before .before .before .before .before .before .before .before .before .before .before
+    .before .shared-slice-known2 in
+    let pre = c .before .before .before .before .before .before .before .before .before .before .before .before .before .before .before .before .before
+    .before .pre in
     c .before .before .before .before .operand .ensures _ _ (λ i. omega (arith, shared-slice-known2 .given i)) (pre .0)
 
 more-requires : tie.Need-more-requires
@@ -61,8 +65,10 @@ more-requires c κs = search needs
 
 returns-4 : tie.Need-returns-4
 returns-4 c =
-    let shared-slice-known2 = c .before .before .before .before .before .before .before .before .before .before .before .before .before .before .before .before .before .before .shared-slice-known2 in
-    let pre = c .before .before .before .before .before .before .before .before .before .before .before .before .before .before .before .before .before .before .before .before .pre in
+    let shared-slice-known2 = c .before .before .before .before .before .before .before .before .before .before .before .before .before .before .before
+    .before .before .before .shared-slice-known2 in
+    let pre = c .before .before .before .before .before .before .before .before .before .before .before .before .before .before .before .before .before
+    .before .before .before .pre in
     c .before .before .before .before .more .ensures _ (λ i. omega (arith, shared-slice-known2 .given i)) (pre .0)
 
 rest-requires : tie.Need-rest-requires
@@ -78,7 +84,8 @@ rest-requires c κs =
 
 returns-5 : tie.Need-returns-5
 returns-5 c =
-    let pre = c .before .before .before .before .before .before .before .before .before .before .before .before .before .before .before .before .before .before .before .pre in
+    let pre = c .before .before .before .before .before .before .before .before .before .before .before .before .before .before .before .before .before
+    .before .before .pre in
     c .before .before .before .before .rest .ensures _ (pre .0)
 
 same-length : tie.Need-same-length
