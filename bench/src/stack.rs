@@ -57,6 +57,11 @@ fn logs(inputs: &[Input]) -> Vec<Input> {
     inputs.iter().map(records).collect()
 }
 
+/// Logs that no run need have written, at more places than the judge's first rows are for.
+fn scattered() -> Vec<Input> {
+    crate::logs::timed().into_iter().map(|(name, _, log)| Input { name, plan: vec![], schedule: log }).collect()
+}
+
 /// The input with its plan's text in place of the plan.
 fn as_text(input: &Input, text: &mut [u8]) -> Input {
     let length = library::show(&input.plan, text) as usize;
@@ -90,7 +95,10 @@ pub fn print() {
     most("play", 128, &all, |i| {
         library::play(&i.plan, &i.schedule, &mut log, &mut out);
     });
-    most("judge", 64, &logs, |i| {
+    most("judge, logs of runs", 64, &logs, |i| {
+        library::judge(1, &i.schedule);
+    });
+    most("judge, logs at many places", 64, &scattered(), |i| {
         library::judge(1, &i.schedule);
     });
     let mut shown = [0; library::PREVIEW_BYTES];

@@ -8,6 +8,7 @@ use mathlib.Core.List.{List, []}
 use mathlib.Core.Logic.{_⊎_, inl, inr}
 use mathlib.Core.Option.{none}
 use lib.ListN.{length, replicate, length-replicate, getD-replicate}
+use borrow.Author.Tests.{lt-ltb, le-ltb}
 use Rattle.format.specs.Version.{Version}
 use Rattle.format.proofs.Filled.{repeated, zeros}
 use Rattle.log_records.specs.Record.{Record}
@@ -23,10 +24,11 @@ use Rattle.log_conflicts.specs.Judge.{Names, names-none}
 use Rattle.log_conflicts.proofs.FirstConflict.{Threads}
 use Rattle.log_conflicts.proofs.RowClocks.{heard-start, kept-start}
 use Rattle.log_clocks.specs.inner.Rows.{Row, clockOf, noRow, rowAt}
+use Rattle.log_places.specs.inner.Places.{numbersOf, givenOf}
 use Rattle.log_rows.specs.inner.Rows.{placeRow}
 use Rattle.log_row_stores.specs.inner.Table.{Sound, clockAt, Started}
 use Rattle.judge.specs.inner.Clear.{Clear}
-use Rattle.judge.proofs.PlaceNumbers.{Places, places-start}
+use Rattle.judge.proofs.PlaceNumbers.{Places, places-first}
 use Rattle.judge.proofs.PortRows.{rowOf, Valid}
 use Rattle.judge.proofs.Table.{Shown, Shows, Blank, clocks}
 
@@ -39,7 +41,7 @@ pub record Going (v : Version) (b : List ℕ) (places i : ℕ) (N : List ℕ) (g
   pub room : placeRow places + 2 < length rows
   pub sound : Sound rows
   pub numbers : Places N given
-  pub few : given ≤ i
+  pub few : given < 1024 → given ≤ i
   pub within : given ≤ places
   pub blank : Blank given rows
   pub shows : Shows v (before b i) N rows
@@ -52,7 +54,18 @@ module _ (v : Version) (places : ℕ) (rows after : List Row) (C : Clear places 
   no-clock q u n = A .others q u n ∙ C .zero q u
 
   abbrev N : List ℕ
-  N = replicate 1024 0
+  N = numbersOf places (replicate 1024 0)
+
+  abbrev given : ℕ
+  given = givenOf places 0
+
+  -- none is given, or all
+  given-first : (given < 1024 → given ≤ 0) × (given ≤ places) × (places ≤ 1024)
+  given-first = go (C .most)
+    where
+      go : (places ≤ 255) ⊎ (places ≡ 1024) → (given < 1024 → given ≤ 0) × (given ≤ places) × (places ≤ 1024)
+      go (inl h) = rw (le-ltb 255 places h) (λ k. omega arith, omega arith, omega arith)
+      go (inr h) = rw (lt-ltb 255 places (omega arith)) (λ k. omega arith, omega arith, omega arith)
 
   shown-start : (p : Port) → Valid p → Shown v [] p (clocks N after p)
   shown-start (ofThread q) w = heard-start v (ofThread q) (clocks N after (ofThread q)) (λ u h. go u (ℕ-discrete q u)) own
@@ -80,23 +93,23 @@ module _ (v : Version) (places : ℕ) (rows after : List Row) (C : Clear places 
   shown-start (ofWrites o f) w =
       kept-start v (ofWrites o f) (clocks N after (ofWrites o f)) (λ u h. no-clock (rowOf N (ofWrites o f)) u (λ k. absurd (omega arith)))
 
-  pub going-start : (b : List ℕ) → Going v b places 0 (replicate 1024 0) 0 after
+  pub going-start : (b : List ℕ) → Going v b places 0 (numbersOf places (replicate 1024 0)) (givenOf places 0) after
   unfolding Shows Blank
   going-start b =
       record {
-        most = C .most;
+        most = given-first .2;
         room = omega (arith, C .room, A .long);
         sound = A .sound;
-        numbers = places-start;
-        few = omega arith;
-        within = omega arith;
+        numbers = places-first places;
+        few = given-first .0;
+        within = given-first .1;
         blank = λ k q x y d u h. no-clock q u (λ l. absurd (omega arith));
         shows = λ p w. rw (past-zero (logOf b)) (shown-start p w);
         none-late = λ j h. absurd (omega arith);
       }
 
 -- rows that are all clear
-pub clear-rows : (places long : ℕ) → places ≤ 1024 → placeRow places + 2 < long → Clear places (replicate long (replicate 8 0))
+pub clear-rows : (places long : ℕ) → (places ≤ 255) ⊎ (places ≡ 1024) → placeRow places + 2 < long → Clear places (replicate long (replicate 8 0))
 clear-rows places long h k =
     record {
       most = h;

@@ -30,7 +30,7 @@ use Rattle.log_conflicts.proofs.FirstConflict.{conflicting↔, at-past}
 use Rattle.log_conflicts.proofs.RowClocks.{Kept, lower→clash, clash→lower}
 use Rattle.log_packing.proofs.Decoded.{kind-is-kind, thread-of-word, object-of-word, field-of-word}
 use Rattle.log_clocks.specs.inner.Rows.{Row, clockOf, rowAt, lowerOf}
-use Rattle.log_places.specs.inner.Places.{placeAt, Numbered, known, next, full}
+use Rattle.log_places.specs.inner.Places.{placeAt, numbersOf, Numbered, known, next, full}
 use Rattle.log_rows.specs.inner.Rows.{placeRow, isAccess, heldRow}
 use Rattle.log_row_stores.specs.inner.Table.{clockAt}
 use Rattle.log_effects.specs.inner.Step.{Ready}
@@ -100,7 +100,7 @@ pub record Here (v : Version) (b : List ℕ) (places i : ℕ) (N : List ℕ) (gi
 -- what holds there once the record's place has its number, if the record is at a place
 pub record Stands (v : Version) (b : List ℕ) (places i : ℕ) (N : List ℕ) (given : ℕ) (rows : List Row) : Type 0 where
   pub numbers : Places N given
-  pub few : given ≤ i + 1
+  pub few : given < 1024 → given ≤ i + 1
   pub within : given ≤ places
   pub blank : Blank given rows
   pub shows : Shows v (before b i) N rows
@@ -163,13 +163,15 @@ module _ {v : Version} {b : List ℕ} {places i : ℕ} {N : List ℕ} {given : �
   place-below : placeAt b i < 1024
   place-below = omega (arith, fits .object-fits, fits .field-fits)
 
-  pub ready : Ready b i places N rows
-  ready =
+  -- by the numbers that are kept
+  pub ready : (kept : List ℕ) → length kept ≡ 1024 → N ≡ numbersOf places kept → Ready b i places kept rows
+  ready kept kept-long e =
       record {
-        numbers = record { below = W .below; most-below = G .most; long = G .numbers .long };
+        numbers = record { below = W .below; long = kept-long };
+        most-below = G .most;
         short = short;
         field-below = thread-field;
-        numbered = λ p. let m = G .numbers .most p in omega (arith, G .within);
+        numbered = λ p. let m = G .numbers .most p in subst (λ (M : List ℕ). getD M p 0 ≤ places) e (omega (arith, G .within));
         sound = G .sound;
         room = G .room;
       }
@@ -184,11 +186,11 @@ module _ {v : Version} {b : List ℕ} {places i : ℕ} {N : List ℕ} {given : �
   pub none-left : {N′ : List ℕ} {given′ n : ℕ} → Numbered N given (placeAt b i) places N′ given′ n → n ≡ 0 → (places < recordCount b) × (places < 1024)
   none-left (known k) z = absurd (omega arith)
   none-left (next k l) z = absurd (omega arith)
-  none-left (full k l) z = (omega (arith, G .few, inside), omega (arith, given-below (G .numbers) (placeAt b i) place-below k))
+  none-left (full k l) z = let h = given-below (G .numbers) (placeAt b i) place-below k in let g = G .few h in (omega (arith, inside), omega arith)
 
   -- a record at no place
   pub unnumbered : Stands v b places i N given rows
-  unnumbered = record { numbers = G .numbers; few = omega (arith, G .few); within = G .within; blank = G .blank; shows = G .shows }
+  unnumbered = record { numbers = G .numbers; few = λ h. let g = G .few h in omega arith; within = G .within; blank = G .blank; shows = G .shows }
 
   pub placed-here : {N′ : List ℕ} {given′ n : ℕ} → Numbered N given (placeAt b i) places N′ given′ n → (n ≡ 0 → ⊥) → Placed N′ given′ (placeAt b i) n
   placed-here P some-number = placed (G .numbers) place-below P some-number
@@ -203,10 +205,10 @@ module _ {v : Version} {b : List ℕ} {places i : ℕ} {N : List ℕ} {given : �
         shows = shows-placed v (before b i) eight (G .numbers) place-below rows (G .blank) (G .shows) P;
       }
     where
-      bounds : {M : List ℕ} {more m : ℕ} → Numbered N given (placeAt b i) places M more m → (more ≤ i + 1) × (more ≤ places)
-      bounds (known k) = (omega (arith, G .few), G .within)
-      bounds (next k l) = (omega (arith, G .few), omega arith)
-      bounds (full k l) = (omega (arith, G .few), G .within)
+      bounds : {M : List ℕ} {more m : ℕ} → Numbered N given (placeAt b i) places M more m → (more < 1024 → more ≤ i + 1) × (more ≤ places)
+      bounds (known k) = (λ h. let g = G .few h in omega arith, G .within)
+      bounds (next k l) = (λ h. let g = G .few (omega arith) in omega arith, omega arith)
+      bounds (full k l) = (λ h. let g = G .few h in omega arith, G .within)
 
       more : {M : List ℕ} {later m : ℕ} → Numbered N given (placeAt b i) places M later m → given ≤ later
       more (known k) = omega arith

@@ -76,7 +76,7 @@ module _ {v : Version} {b : List ℕ} {places i : ℕ} {N : List ℕ} {given : �
           room = omega (arith, W .going .room);
           sound = sound;
           numbers = S .numbers;
-          few = omega (arith, S .few);
+          few = λ h. let g = S .few h in omega arith;
           within = S .within;
           blank = blank;
           shows = rw (next-past W) shown;

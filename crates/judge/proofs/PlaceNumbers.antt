@@ -1,16 +1,17 @@
 -- The numbers of places: no two places have one number, and there are as many numbers as places that have one. Assumes nothing.
 use Prim.Native.Nat.{ℕ, zero, suc, _+_, _<_, _≤_}
 use native.Mathlib.Omega.{arith}
-use native.Mathlib.Decide.{ℕ-discrete}
+use native.Mathlib.Decide.{ℕ-discrete, decLt}
 use mathlib.Core.Path.{_≡_, refl, sym, ap, subst, _∙_}
 use mathlib.Core.Bool.{Bool, true, false, cond}
 use mathlib.Core.List.{List, [], _∷_}
-use lib.Dec.{eqb}
+use lib.Dec.{eqb, ltb}
 use lib.ListN.{length, getD, set, replicate, length-set, length-replicate}
 use lib.Seq.{getD-set-same, getD-set-other}
 use borrow.Author.Tests.{ne-eqb}
 use Rattle.format.proofs.Filled.{zeros}
-use Rattle.log_places.specs.inner.Places.{Numbered, known, next, full}
+use Rattle.log_places.specs.inner.Places.{numbersFrom, numbersOf, givenOf, Numbered, known, next, full}
+use Rattle.log_places.proofs.OwnNumbers.{from-long, from-at, from-past}
 
 -- how many places have no number
 abbrev unnumbered : List ℕ → ℕ
@@ -38,7 +39,7 @@ pub record Places (N : List ℕ) (given : ℕ) : Type 0 where
   pub once : (p q : ℕ) → p < 1024 → q < 1024 → getD N p 0 ≡ getD N q 0 → 0 < getD N q 0 → p ≡ q
   pub left : unnumbered N + given ≡ 1024
 
-pub places-start : Places (replicate 1024 0) 0
+places-start : Places (replicate 1024 0) 0
 places-start =
     record {
       long = length-replicate {A = ℕ} 1024 0;
@@ -46,6 +47,33 @@ places-start =
       once = λ p q a b e h. absurd (omega (arith, zeros 1024 q));
       left = omega (arith, unnumbered-all 1024);
     }
+
+unnumbered-none : (first n : ℕ) → 0 < first → unnumbered (numbersFrom first n) ≡ 0
+unfolding numbersFrom
+unnumbered-none first zero h = refl
+unnumbered-none first (suc n) h = rw (ne-eqb first 0 (λ q. omega arith)) (unnumbered-none (suc first) n (omega arith))
+
+-- each place has its own
+places-own : Places (numbersFrom 1 1024) 1024
+places-own =
+    record {
+      long = from-long 1 1024;
+      most = λ p. go p (decLt p 1024);
+      once = λ p q a b e h. omega (arith, from-at 1 1024 p a, from-at 1 1024 q b);
+      left = omega (arith, unnumbered-none 1 1024 (omega arith));
+    }
+  where
+    go : (p : ℕ) → Dec (p < 1024) → getD (numbersFrom 1 1024) p 0 ≤ 1024
+    go p (yes h) = omega (arith, from-at 1 1024 p h)
+    go p (no h) = omega (arith, from-past 1 1024 p (omega arith))
+
+-- the start, by how many there can be
+pub places-first : (most : ℕ) → Places (numbersOf most (replicate 1024 0)) (givenOf most 0)
+places-first most = go (ltb 255 most)
+  where
+    go : (d : Bool) → Places (cond d (numbersFrom 1 1024) (replicate 1024 0)) (cond d 1024 0)
+    go true = places-own
+    go false = places-start
 
 -- a place without a number gets the next
 module _ (N : List ℕ) (given p : ℕ) (P : Places N given) (below : p < 1024) (new : getD N p 0 ≡ 0) where

@@ -50,7 +50,7 @@ fn judge_version(log: &[u8], version: usize) -> Judgement
     if log.len() / 3 <= 64 {
         return pass::short(log, version);
     }
-    if log.len() / 3 <= 256 {
+    if log.len() / 3 <= 128 {
         return pass::middle(log, version);
     }
     pass::long(log, version)

@@ -8,7 +8,7 @@ ghost use Rattle.log_records.specs.Refusals.{logRefusal};
 ghost use Rattle.log_conflicts.specs.Judge.{Answers};
 ghost use Rattle.judge.specs.Answer.{answered};
 ghost use Rattle.judge.specs.inner.Found.{Finds, foundOf, isEnd, judgementOf, isFull};
-ghost use Rattle.judge.specs.inner.Clear.{Clear};
+ghost use Rattle.judge.specs.inner.Clear.{Clear, largeTable};
 use crate::Judgement;
 use log_clocks::Row;
 use log_effects::Taking;
@@ -55,7 +55,7 @@ fn pass(log: &[u8], version: usize, places: u16, table: &mut [Row]) -> Found
     log_row_stores::start(table);
     let read = log_rows::ordering(version, kind::VOLATILE_READ);
     let write = log_rows::ordering(version, kind::VOLATILE_WRITE);
-    let mut numbers = [0u16; 1024];
+    let mut numbers = [0u8; 1024];
     let mut given = 0u16;
     let mut index = 0;
     while index < count {
@@ -117,14 +117,24 @@ fn by_sixty_four(log: &[u8], version: usize) -> Found
     pass(log, version, 64, &mut table)
 }
 
-// What is found by a table for 256 places.
-fn by_many(log: &[u8], version: usize) -> Found
+// What is found by a table for 128 places.
+fn by_one_hundred_twenty_eight(log: &[u8], version: usize) -> Found
     requires { ⌜ logRefusal (now log) ≡ none ⌝ }
-    ensures { λ r. ⌜ Finds (versionOf version) (now (log .entry)) 256 r ⌝ }
+    ensures { λ r. ⌜ Finds (versionOf version) (now (log .entry)) 128 r ⌝ }
 {
     let clear = [0u16; 8];
-    let mut table = [clear; 779];
-    pass(log, version, 256, &mut table)
+    let mut table = [clear; 395];
+    pass(log, version, 128, &mut table)
+}
+
+// What is found by a table for 255 places.
+fn by_many(log: &[u8], version: usize) -> Found
+    requires { ⌜ logRefusal (now log) ≡ none ⌝ }
+    ensures { λ r. ⌜ Finds (versionOf version) (now (log .entry)) 255 r ⌝ }
+{
+    let clear = [0u16; 8];
+    let mut table = [clear; 776];
+    pass(log, version, 255, &mut table)
 }
 
 // What is found by a table for all 1,024 places.
@@ -181,29 +191,47 @@ pub fn short(log: &[u8], version: usize) -> Judgement
     judgement(found)
 }
 
-// The answer to a log of at most 256 records: most are at few places, so that rows for as many as it can be at are cleared only where those for 64 do not
-// suffice.
+// The answer to a log of at most 128 records, in the same way.
 pub fn middle(log: &[u8], version: usize) -> Judgement
-    requires { ⌜ logRefusal (now log) ≡ none ⌝ ∗ ⌜ length (now log) / 3 ≤ 256 ⌝ }
+    requires { ⌜ logRefusal (now log) ≡ none ⌝ ∗ ⌜ length (now log) / 3 ≤ 128 ⌝ }
     ensures { λ r. ⌜ Answers (versionOf version) (now (log .entry)) (answered r) ⌝ }
 {
-    let found = by_sixty_four(log, version);
+    let found = by_one_hundred_twenty_eight(log, version);
+    judgement(found)
+}
+
+// What is found by the one or the other of the two large tables.
+fn by_either(log: &[u8], version: usize, all: bool) -> Found
+    requires { ⌜ logRefusal (now log) ≡ none ⌝ }
+    ensures { λ r. ⌜ Finds (versionOf version) (now (log .entry)) (largeTable all) r ⌝ }
+{
+    if all {
+        return by_all(log, version);
+    }
+    by_many(log, version)
+}
+
+// The answer by a table for 255 places, or at once by one for all, which decides too where 255 do not suffice. It calls itself, so that the compiler keeps it
+// apart: the frame of the large tables is then set up for such logs alone, not in every call of the entry.
+fn widened(log: &[u8], version: usize, all: bool) -> Judgement
+    requires { ⌜ logRefusal (now log) ≡ none ⌝ }
+    ensures { λ r. ⌜ Answers (versionOf version) (now (log .entry)) (answered r) ⌝ }
+{
+    let found = by_either(log, version, all);
     if full(found) {
-        let again = by_many(log, version);
-        return judgement(again);
+        return widened(log, version, true);
     }
     judgement(found)
 }
 
-// The answer to any log, in the same way by rows for all places.
+// The answer to any log: most are at few places, so that more rows are cleared only where those for 64 do not suffice.
 pub fn long(log: &[u8], version: usize) -> Judgement
     requires { ⌜ logRefusal (now log) ≡ none ⌝ }
     ensures { λ r. ⌜ Answers (versionOf version) (now (log .entry)) (answered r) ⌝ }
 {
     let found = by_sixty_four(log, version);
     if full(found) {
-        let again = by_all(log, version);
-        return judgement(again);
+        return widened(log, version, 255 < log.len() / 3);
     }
     judgement(found)
 }

@@ -1,6 +1,6 @@
 // What a record does to the table: a plain access is held against what it must have heard and kept, an acquire and a volatile read hear, a release, a volatile
 // write, a fork and a join tell. By its kind first: only what is at a place has the place looked up.
-ghost use Rattle.log_places.specs.inner.Places.{placeAt, Numbered};
+ghost use Rattle.log_places.specs.inner.Places.{placeAt, numbersOf, givenOf, Numbered};
 ghost use Rattle.log_effects.specs.inner.Step.{fieldAt, Numbers, Elsewhere, Ready, OtherStep, Stepped};
 use log_clocks::Row;
 use log_places::places;
@@ -18,10 +18,10 @@ pub enum Taking {
 }
 
 // The number of the place of the record at an index, or 0 where none is left.
-fn number_at(log: &[u8], index: usize, most: u16, numbers: &mut [u16], given: &mut u16) -> u16
-    requires { ⌜ Numbers (now log) index most (now numbers) ⌝ }
-    ensures { λ r. ⌜ Numbered (now (numbers .entry)) (now (given .entry)) (placeAt (now (log .entry)) index) most (now (numbers .exit))
-        (now (given .exit)) r ⌝ }
+fn number_at(log: &[u8], index: usize, most: u16, numbers: &mut [u8], given: &mut u16) -> u16
+    requires { ⌜ Numbers (now log) index (now numbers) ⌝ }
+    ensures { λ r. ⌜ Numbered (numbersOf most (now (numbers .entry))) (givenOf most (now (given .entry))) (placeAt (now (log .entry)) index) most
+        (numbersOf most (now (numbers .exit))) (givenOf most (now (given .exit))) r ⌝ }
 {
     let place = records::place_at(log, index);
     places::number(numbers, given, place, most)
@@ -50,13 +50,13 @@ pub fn step(
     read: usize,
     write: usize,
     most: u16,
-    numbers: &mut [u16],
+    numbers: &mut [u8],
     given: &mut u16,
     table: &mut [Row],
 ) -> Taking
     requires { ⌜ Ready (now log) index most (now numbers) (now table) ⌝ }
-    ensures { λ r. ⌜ Stepped (now (log .entry)) index read write most (now (numbers .entry)) (now (given .entry)) (now (table .entry)) (now (numbers .exit))
-        (now (given .exit)) (now (table .exit)) r ⌝ }
+    ensures { λ r. ⌜ Stepped (now (log .entry)) index read write most (numbersOf most (now (numbers .entry))) (givenOf most (now (given .entry)))
+        (now (table .entry)) (numbersOf most (now (numbers .exit))) (givenOf most (now (given .exit))) (now (table .exit)) r ⌝ }
 {
     let kind = records::kind_at(log, index);
     let thread = records::thread_at(log, index);

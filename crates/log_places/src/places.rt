@@ -1,16 +1,21 @@
 // The places that a log's records are at, each an object with a field, or with 0 its monitor. They have numbers from 1, in the order in which the
-// records come to them, so that a log needs rows for its own places alone.
-ghost use Prim.Native.Nat.{_<_, _≤_};
+// records come to them, so that a log needs rows for its own places alone; where there are rows for all, each has its own.
+ghost use mathlib.Core.Path.{_≡_};
+ghost use Prim.Native.Nat.{_<_};
 ghost use lib.ListN.{length};
-ghost use Rattle.log_places.specs.inner.Places.{Numbered};
+ghost use Rattle.log_places.specs.inner.Places.{numbersOf, givenOf, Numbered};
 
 // The number of a place, the next after those given where it has none yet, or 0 where none is left of as many as there are. `numbers` holds the number of
-// each place, or 0.
-pub fn number(numbers: &mut [u16], given: &mut u16, place: usize, most: u16) -> u16
-    requires { ⌜ place < length (now numbers) ⌝ ∗ ⌜ most ≤ 4096 ⌝ }
-    ensures { λ r. ⌜ Numbered (now (numbers .entry)) (now (given .entry)) place most (now (numbers .exit)) (now (given .exit)) r ⌝ }
+// each place, or 0; numbers over 255 do not fit there, so that of more each place has its own.
+pub fn number(numbers: &mut [u8], given: &mut u16, place: usize, most: u16) -> u16
+    requires { ⌜ place < 1024 ⌝ ∗ ⌜ length (now numbers) ≡ 1024 ⌝ }
+    ensures { λ r. ⌜ Numbered (numbersOf most (now (numbers .entry))) (givenOf most (now (given .entry))) place most
+        (numbersOf most (now (numbers .exit))) (givenOf most (now (given .exit))) r ⌝ }
 {
-    let known = numbers[place];
+    if 255 < most {
+        return place as u16 + 1;
+    }
+    let known = byte_numbers::wide(numbers[place]);
     if known == 0 {
         let last = *given;
         if most <= last {
@@ -18,8 +23,8 @@ pub fn number(numbers: &mut [u16], given: &mut u16, place: usize, most: u16) -> 
         }
         let next = last + 1;
         *given = next;
-        numbers[place] = next;
+        numbers[place] = next as u8;
         return next;
     }
-    known
+    known as u16
 }

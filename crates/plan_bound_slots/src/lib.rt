@@ -60,40 +60,34 @@ fn closed_leaf(word: usize, bound: usize) -> bool
 }
 
 // Two operands, of which one is seen here and the other is left: the second is seen here if it has no children, else the first.
-fn rest_of_two(
-    words: &[usize; 1024],
-    first: usize,
-    bound: usize,
-    second: usize,
-    inner: usize,
-) -> Rest
+fn rest_of_two(words: &[usize], first: usize, bound: usize, second: usize, inner: usize) -> Rest
     requires { ⌜ Ordered (now words) ⌝ }
     requires { ⌜ (first < 1024) × (second < 1024) ⌝ }
     ensures { λ r. ⌜ seen (now (words .entry)) r ≡
         (closed (slots bound) (treeIn (now (words .entry)) first) && closed (slots inner) (treeIn (now (words .entry)) second)) ⌝ }
     ensures { λ r. ⌜ ((term : ℕ) → term < first → term < second → After term r) ⌝ }
 {
-    let word = words[second];
+    let word = plan_words::word(words, second);
     if plan_operands::tag(word) < tags::READ {
         if closed_leaf(word, inner) {
             return Rest::At(first, bound);
         }
         return Rest::Open;
     }
-    if closed_expression(words, first, bound) {
+    if closed_expression(&*words, first, bound) {
         return Rest::At(second, inner);
     }
     Rest::Open
 }
 
 // An expression, taken apart once.
-fn rest_of(words: &[usize; 1024], term: usize, bound: usize) -> Rest
+fn rest_of(words: &[usize], term: usize, bound: usize) -> Rest
     requires { ⌜ Ordered (now words) ⌝ }
     requires { ⌜ term < 1024 ⌝ }
     ensures { λ r. ⌜ seen (now (words .entry)) r ≡ closed (slots bound) (treeIn (now (words .entry)) term) ⌝ }
     ensures { λ r. ⌜ After term r ⌝ }
 {
-    let word = words[term];
+    let word = plan_words::word(words, term);
     let first = plan_operands::first(word);
     let second = plan_operands::second(word);
     match plan_operands::tag(word) {
@@ -113,18 +107,18 @@ fn rest_of(words: &[usize; 1024], term: usize, bound: usize) -> Rest
             rest_of_two(words, value, bound, body, inner)
         }
         tags::IF => {
-            if closed_condition(words, first, bound) {
+            if closed_condition(&*words, first, bound) {
                 return rest_of_two(words, second, bound, plan_operands::third(word), bound);
             }
             Rest::Open
         }
         tags::WHILE => {
-            if closed_condition(words, first, bound) {
+            if closed_condition(&*words, first, bound) {
                 return Rest::At(second, bound);
             }
             Rest::Open
         }
-        tags::CALL => told(closed_list(words, plan_operands::list_of(word), bound)),
+        tags::CALL => told(closed_list(&*words, plan_operands::list_of(word), bound)),
         tags::FORK => Rest::At(first, bound),
         tags::JOIN => Rest::At(first, bound),
         tags::SYNCH => rest_of_two(words, first, bound, second, bound),
@@ -136,7 +130,7 @@ fn rest_of(words: &[usize; 1024], term: usize, bound: usize) -> Rest
 }
 
 // An expression, one operand after the other: a call for the one, a turn of the loop for the other.
-fn closed_expression(words: &[usize; 1024], from: usize, outer: usize) -> bool
+fn closed_expression(words: &[usize], from: usize, outer: usize) -> bool
     requires { ⌜ Ordered (now words) ⌝ }
     requires { ⌜ from < 1024 ⌝ }
     ensures { λ r. ⌜ r ≡ closed (slots outer) (treeIn (now (words .entry)) from) ⌝ }
@@ -157,14 +151,14 @@ fn closed_expression(words: &[usize; 1024], from: usize, outer: usize) -> bool
 }
 
 // A condition; the second operand of an `and` that is `true` needs no call.
-fn closed_condition(words: &[usize; 1024], from: usize, bound: usize) -> bool
+fn closed_condition(words: &[usize], from: usize, bound: usize) -> bool
     requires { ⌜ Ordered (now words) ⌝ }
     requires { ⌜ from < 1024 ⌝ }
     ensures { λ r. ⌜ r ≡ closedᶜ (slots bound) (conditionIn (now (words .entry)) from) ⌝ }
 {
     let mut term = from;
     loop {
-        let word = words[term];
+        let word = plan_words::word(words, term);
         let first = plan_operands::first(word);
         let second = plan_operands::second(word);
         match plan_operands::tag(word) {
@@ -173,11 +167,11 @@ fn closed_condition(words: &[usize; 1024], from: usize, bound: usize) -> bool
                 continue;
             }
             tags::AND => {
-                if plan_operands::tag(words[second]) == tags::TRUE {
+                if plan_operands::tag(plan_words::word(words, second)) == tags::TRUE {
                     term = first;
                     continue;
                 }
-                if !closed_condition(words, first, bound) {
+                if !closed_condition(&*words, first, bound) {
                     return false;
                 }
                 term = second;
@@ -188,7 +182,7 @@ fn closed_condition(words: &[usize; 1024], from: usize, bound: usize) -> bool
                 match rest {
                     Rest::Closed => return true,
                     Rest::Open => return false,
-                    Rest::At(next, inner) => return closed_expression(words, next, inner),
+                    Rest::At(next, inner) => return closed_expression(&*words, next, inner),
                 }
             }
             _ => return true,
@@ -197,18 +191,18 @@ fn closed_condition(words: &[usize; 1024], from: usize, bound: usize) -> bool
 }
 
 // The arguments of a call.
-fn closed_list(words: &[usize; 1024], from: usize, bound: usize) -> bool
+fn closed_list(words: &[usize], from: usize, bound: usize) -> bool
     requires { ⌜ Ordered (now words) ⌝ }
     requires { ⌜ from < 1024 ⌝ }
     ensures { λ r. ⌜ r ≡ closedᵃ (slots bound) (listIn (now (words .entry)) from) ⌝ }
 {
     let mut term = from;
     loop {
-        let word = words[term];
+        let word = plan_words::word(words, term);
         if plan_operands::tag(word) != tags::LIST {
             return true;
         }
-        if !closed_expression(words, plan_operands::first(word), bound) {
+        if !closed_expression(&*words, plan_operands::first(word), bound) {
             return false;
         }
         term = plan_operands::second(word);
@@ -216,7 +210,7 @@ fn closed_list(words: &[usize; 1024], from: usize, bound: usize) -> bool
 }
 
 // An expression uses no slot but the first ones, so many parameters, and those that its lets bind.
-pub fn closed_with(words: &[usize; 1024], root: usize, parameters: usize) -> bool
+pub fn closed_with(words: &[usize], root: usize, parameters: usize) -> bool
     requires { ⌜ Ordered (now words) × (root < 1024) × (parameters < 64) ⌝ }
     ensures { λ r. ⌜ r ≡ closed (λ x. ltb x parameters) (treeIn (now (words .entry)) root) ⌝ }
 {
@@ -224,7 +218,7 @@ pub fn closed_with(words: &[usize; 1024], root: usize, parameters: usize) -> boo
 }
 
 // The lowest procedure whose root uses an unbound slot, or `procedures`.
-pub fn lowest_open(plan: &[u8], procedures: usize, count: usize, words: &[usize; 1024]) -> usize
+pub fn lowest_open(plan: &[u8], procedures: usize, count: usize, words: &[usize]) -> usize
     requires { ⌜ Right (now plan) procedures count ⌝ }
     requires { ⌜ Loaded (now plan) count (now words) ⌝ }
     ensures { λ r. ⌜ Lowest (usesUnboundSlot (now (plan .entry))) procedures r ⌝ }

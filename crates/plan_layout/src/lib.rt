@@ -2,6 +2,7 @@
 pub mod rows;
 
 use plan_pen::Gap;
+use plan_pen::looks::Looks;
 use rows::Rows;
 ghost use mathlib.Core.Path.{_≡_};
 ghost use Prim.Native.Nat.{_+_, _<_, _≤_};
@@ -13,8 +14,9 @@ ghost use Rattle.plan_notation.specs.Tokens.{textEnd, textOf};
 ghost use Rattle.plan_notation.specs.inner.Known.{Known};
 ghost use Rattle.plan_notation.specs.Layout.{laidOut};
 ghost use Rattle.plan_layout.specs.inner.Rows.{textRows};
-ghost use Rattle.plan_layout.specs.inner.Marks.{gapOf, Marked, WroteWithin};
+ghost use Rattle.plan_layout.specs.inner.Marks.{gapOf, Marked, WroteWithin, LaidWithin};
 ghost use Rattle.plan_pen.specs.inner.Pens.{gapBytes};
+ghost use Rattle.plan_pen.specs.inner.Looks.{lookRows};
 
 // A gap as a mark.
 fn mark(gap: Gap) -> u16
@@ -38,8 +40,8 @@ fn gap_of(mark: u16) -> Gap
 }
 
 // How many bytes the text of some tokens has, and the marks of their gaps.
-pub fn measure(rows: &Rows, tokens: &[u8], marks: &mut [u16]) -> usize
-    requires { ⌜ (now rows ≡ textRows) × Known (now tokens) ⌝ }
+pub fn measure(rows: &Rows, looks: &Looks, tokens: &[u8], marks: &mut [u16]) -> usize
+    requires { ⌜ (now rows ≡ textRows) × (now looks ≡ lookRows) × Known (now tokens) ⌝ }
     requires { ⌜ (length (now tokens) ≤ 16384) × (length (now tokens) ≤ length (now marks)) ⌝ }
     ensures { λ r. ⌜ (r ≡ length (laidOut (now (tokens .entry)))) × Marked (now (tokens .entry)) (now (marks .exit)) ⌝ }
 {
@@ -49,10 +51,10 @@ pub fn measure(rows: &Rows, tokens: &[u8], marks: &mut [u16]) -> usize
     while index < tokens.len() {
         let token = tokens[index];
         let width = rows::width(rows, token);
-        let gap = plan_pen::gap_before(pen, token, width);
+        let gap = plan_pen::gap_before(looks, pen, token, width);
         marks[index] = mark(gap);
         total += plan_pen::length_of(gap) + width;
-        pen = plan_pen::after(pen, token, width, gap);
+        pen = plan_pen::after(looks, pen, token, width, gap);
         index += 1;
     }
     total + 1
@@ -121,6 +123,16 @@ fn put_wide_token(area: &mut [u8], at: usize, rows: &Rows, token: u8, width: usi
     at + width
 }
 
+// A gap and a token, and what else is written with them.
+fn put_wide(area: &mut [u8], at: usize, rows: &Rows, token: u8, gap: Gap, width: usize) -> usize
+    requires { ⌜ now rows ≡ textRows ⌝ }
+    requires { ⌜ (token < textEnd) × (width ≡ length (textOf token)) × (gap .spaces ≤ 40) × (at + 50 ≤ length (now area)) ⌝ }
+    ensures { λ r. ⌜ WroteWithin (now (area .entry)) at (gapBytes gap ++ textOf token) (now (area .exit)) r (at + 50) ⌝ }
+{
+    let next = put_wide_gap(area, at, gap);
+    put_wide_token(area, next, rows, token, width)
+}
+
 // A token behind its gap. Where the text goes on for 50 bytes, both are written with so many bytes as any has, since what follows is written over these.
 fn put_next(rows: &Rows, token: u8, gap: Gap, area: &mut [u8], at: usize, total: usize) -> usize
     requires { ⌜ (now rows ≡ textRows) × (token < textEnd) × (gap .spaces ≤ 40) ⌝ }
@@ -132,8 +144,7 @@ fn put_next(rows: &Rows, token: u8, gap: Gap, area: &mut [u8], at: usize, total:
         let next = put_gap(area, at, gap);
         return put_token(area, next, rows, token, width);
     }
-    let next = put_wide_gap(area, at, gap);
-    put_wide_token(area, next, rows, token, width)
+    put_wide(area, at, rows, token, gap, width)
 }
 
 // The text of some tokens and the marks of their gaps, at the start of an area that has room for it.
@@ -150,4 +161,28 @@ pub fn lay_out(rows: &Rows, tokens: &[u8], marks: &[u16], area: &mut [u8], total
         index += 1;
     }
     text::put_byte(area, at, b'\n');
+}
+
+// The text of some tokens, gaps found and written at once, at the start of a room, and how long it is: 0 where fewer than 51 bytes of the room are left
+// before a token, since both are written with so many bytes as any has, and a line feed may follow.
+pub fn lay_within(rows: &Rows, looks: &Looks, tokens: &[u8], room: &mut [u8]) -> usize
+    requires { ⌜ (now rows ≡ textRows) × (now looks ≡ lookRows) × Known (now tokens) ⌝ }
+    requires { ⌜ (length (now tokens) ≤ 16384) × (0 < length (now room)) ⌝ }
+    ensures { λ r. ⌜ LaidWithin (now (tokens .entry)) (now (room .exit)) r ⌝ }
+{
+    let mut pen = plan_pen::start();
+    let mut at = 0;
+    let mut index = 0;
+    while index < tokens.len() {
+        if room.len() - at < 51 {
+            return 0;
+        }
+        let token = tokens[index];
+        let width = rows::width(rows, token);
+        let gap = plan_pen::gap_before(looks, pen, token, width);
+        at = put_wide(room, at, rows, token, gap, width);
+        pen = plan_pen::after(looks, pen, token, width, gap);
+        index += 1;
+    }
+    text::put_byte(room, at, b'\n')
 }

@@ -1,17 +1,16 @@
 // The line and the column of a token.
-use plan_token_automaton::automaton;
-use plan_token_automaton::automaton::Begun;
-use plan_token_automaton::automaton::Ended;
-use plan_token_automaton::automaton::NONE;
-use plan_token_automaton::classes;
-use plan_token_automaton::names;
+use plan_scanner::classes;
+use plan_scanner::classes::BLANK;
+use plan_scanner::classes::Classes;
+use plan_scanner::classes::HASH;
+use plan_scanner::classes::MARK;
+use plan_scanner::extents;
 ghost use mathlib.Core.Path.{_≡_};
-ghost use Prim.Native.Nat.{_-_};
-ghost use lib.Dec.{ltb};
 ghost use lib.ListN.{length};
 ghost use Rattle.plan_notation.specs.Lexing.{tokensOf, placeAfter};
-ghost use Rattle.plan_token_automaton.specs.inner.Ended.{listed};
+ghost use Rattle.plan_scanner.specs.inner.Classes.{Classed, Scanned};
 ghost use Rattle.plan_lexer.specs.Place.{placeIn, placeOf};
+ghost use Rattle.plan_lexer.specs.inner.TokenEnds.{Begins, TokenEnds};
 
 // Both from 1.
 pub struct Spot {
@@ -19,27 +18,24 @@ pub struct Spot {
     pub column: usize,
 }
 
-// Of a token, or none, it is the one that so many tokens are before.
-fn hits(left: usize, token: Ended) -> bool
-    ensures { λ r. ⌜ r ≡ ltb left (length (listed token)) ⌝ }
+// The place of the byte behind a token, by the place and the class of its first.
+fn token_end(classes: &Classes, text: &[u8], index: usize, class: u8) -> usize
+    requires { ⌜ Classed (now classes) ⌝ }
+    requires { ⌜ Scanned (now text) index class ⌝ }
+    requires { ⌜ Begins class ⌝ }
+    ensures { λ r. ⌜ TokenEnds (now (text .entry)) index r ⌝ }
 {
-    if token.code == NONE {
-        return false;
+    if class < HASH {
+        let name = extents::name_from(classes, text, index + 1, class);
+        return name.end;
     }
-    left == 0
-}
-
-// So many tokens are left behind it.
-fn behind(left: usize, token: Ended) -> usize
-    ensures { λ r. ⌜ r ≡ left - length (listed token) ⌝ }
-{
-    if token.code == NONE {
-        return left;
+    if MARK <= class {
+        return index + 1;
     }
-    if left == 0 {
-        return 0;
+    if extents::becomes(text, index) {
+        return index + 2;
     }
-    left - 1
+    index + 1
 }
 
 // The first byte of a token by its number; the text's length if there are fewer.
@@ -47,29 +43,24 @@ fn first_byte(text: &[u8], number: usize) -> usize
     ensures { λ r. ⌜ r ≡ placeIn (tokensOf (now (text .entry))) number (length (now (text .entry))) ⌝ }
 {
     let classes = classes::classes();
-    let names = names::names();
-    let mut begun = Begun::Nothing;
     let mut left = number;
     let mut index = 0;
     while index < text.len() {
-        let byte = text[index];
-        let class = classes::class_of(&classes, byte);
-        let before = automaton::ended_before(&names, begun, byte, class);
-        if hits(left, before) {
-            return before.place;
+        let class = classes::class_of(&classes, text[index]);
+        if class == BLANK {
+            index += 1;
+            continue;
         }
-        left = behind(left, before);
-        let with = automaton::ended_with(begun, index, byte, class);
-        if hits(left, with) {
-            return with.place;
+        if class == HASH {
+            index = extents::comment_end(text, index + 1);
+            continue;
         }
-        left = behind(left, with);
-        begun = automaton::after(begun, index, byte, class);
-        index += 1;
-    }
-    let last = automaton::ended_last(&names, begun);
-    if hits(left, last) {
-        return last.place;
+        let end = token_end(&classes, text, index, class);
+        if left == 0 {
+            return index;
+        }
+        left -= 1;
+        index = end;
     }
     text.len()
 }

@@ -37,7 +37,7 @@ module _ (words values : List ℕ) (n left k : ℕ) (q : Makeable words values n
   pub word-fits : (k < 21) × (first < 2 ^ width (layout k .first)) × (second < 2 ^ width (layout k .second)) × (third < 2 ^ width (layout k .third))
   word-fits =
       let t : Fitting (layout k) (operandAt values n count′) (operandAt values n (count′ - 1)) (operandAt values n (count′ - 2)) =
-      made-fits words (q .ordered) (q .words-long) m left next (q .few-left) values n k (q .tag-known) (q .operands) (q .entries)
+      made-fits words (q .ordered) (q .few-words) m left next (q .few-left) values n k (q .tag-known) (q .operands) (q .entries)
       in
       (q .tag-known, rw first-is (t .first-fits), rw second-is (t .second-fits), rw third-is (t .third-fits))
 
@@ -46,16 +46,15 @@ module _ (words values : List ℕ) (n left k : ℕ) (q : Makeable words values n
 
   made-after : After (wordOf k (operandAt values n count′) (operandAt values n (count′ - 1)) (operandAt values n (count′ - 2))) count′
   made-after =
-      let l = q .values-long in
       let d = q .few in
       let there : n - count′ < length values = omega arith in
       record {
-        values-are = values-made words (q .ordered) (q .words-long) m left next (q .few-left) values n k (q .tag-known) (q .operands) (q .entries) there;
-        ordered = ordered-made words (q .ordered) (q .words-long) m left next (q .few-left) values n k (q .tag-known) (q .operands) (q .entries);
-        words-long = length-set words m _ ∙ q .words-long;
-        values-long = length-set values (n - count′) m ∙ q .values-long;
-        entries = entries-made words (q .ordered) (q .words-long) m left next (q .few-left) values n k (q .tag-known) (q .operands) (q .entries) there;
-        terms-stay = terms-stay words (q .ordered) (q .words-long) m left next (q .few-left) values n k (q .tag-known) (q .operands) (q .entries);
+        values-are = values-made words (q .ordered) (q .few-words) m left next (q .few-left) values n k (q .tag-known) (q .operands) (q .entries) there;
+        ordered = ordered-made words (q .ordered) (q .few-words) m left next (q .few-left) values n k (q .tag-known) (q .operands) (q .entries);
+        words-long = length-set words m _;
+        values-long = length-set values (n - count′) m;
+        entries = entries-made words (q .ordered) (q .few-words) m left next (q .few-left) values n k (q .tag-known) (q .operands) (q .entries) there;
+        terms-stay = terms-stay words (q .ordered) (q .few-words) m left next (q .few-left) values n k (q .tag-known) (q .operands) (q .entries);
         few = omega arith;
       }
 

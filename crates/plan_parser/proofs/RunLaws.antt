@@ -3,10 +3,11 @@ use Prim.Native.Nat.{ℕ, zero, suc, _+_, _-_, _*_, _≤_, _<_}
 use native.Mathlib.Decide.{decLt}
 use native.Mathlib.Omega.{arith}
 use mathlib.Core.Path.{_≡_, refl, sym, ap, subst, _∙_}
-use mathlib.Core.Bool.{cond, _||_}
+use mathlib.Core.Bool.{true, false, cond, _||_, _&&_, true≢false}
 use mathlib.Core.List.{List, [], _∷_, _++_, append-nil}
 use lib.ListN.{length, getD, drop, length-drop}
-use borrow.Author.Tests.{lt-ltb, le-ltb}
+use lib.Dec.{eqb, ltb}
+use borrow.Author.Tests.{lt-ltb, le-ltb, ltb-true, eq-eqb}
 use Rattle.plan_packed.specs.inner.Steps.{Ordered, treeIn}
 use Rattle.plan_parsing.specs.Goals.{Goal, Value, number, numberIn, expressionIn, valueAt}
 use Rattle.plan_parsing.specs.Parser as definition
@@ -15,12 +16,14 @@ use Rattle.plan_parsing.specs.Plan.{procedureGoals}
 use Rattle.plan_parser_goals.specs.inner.Encoded.{goalOf, reasonOf, goalsOf, valueOf, valuesOf}
 use Rattle.plan_parser_goals.specs.inner.Moves.{IsTerm, IsBelow, Operands, Fits, onto}
 use Rattle.plan_parser.specs.inner.Stacks.{Stacked, Entries}
-use Rattle.plan_parser.specs.inner.Reading.{State, Going, shown, Kept, Turned, Resumes, Finished, Reads, Ran, readFrom}
+use Rattle.plan_parser.specs.inner.Reading.{Sized, termsLeft, State, Going, NoneLeft, shown, Kept, Turned, Resumes, Finished, Reads, Ran, readFrom, crowdedBy}
 use Rattle.plan_parser.specs.declared.turns.Standing.{Standing}
 use Rattle.plan_parser.specs.declared.turns.Turn.{Turn}
 use Rattle.plan_parser.specs.declared.turns.Turn.the-variants.{On, Stop}
 use Rattle.plan_parser.specs.declared.Parsed.{Parsed}
-use Rattle.plan_parser.specs.declared.Parsed.the-variants.{Read, Stopped}
+use Rattle.plan_parser.specs.declared.Parsed.the-variants.{Read, Stopped, Full}
+use Rattle.plan_parser.proofs.FitLaws.{and-second}
+use Rattle.plan_parser.proofs.TurnLaws.{resized}
 use Rattle.plan_parser.proofs.TermLaws.{sorts-agree, no-number}
 
 -- ---- lengths
@@ -141,6 +144,8 @@ pub record Before (counts tokens goals₀ values₀ words₀ : List ℕ) (s₀ :
   pub kept : Kept (s₀ .left) words₀ words
   pub fewer : s .left ≤ s₀ .left
   pub resumes : Resumes counts tokens goals values words s (readFrom counts tokens goals₀ values₀ words₀ s₀)
+  pub goals-stay : length goals ≡ length goals₀
+  pub values-stay : length values ≡ length values₀
 
 pub begins : (counts tokens goals values words : List ℕ) (s : Standing) → State tokens goals values words s → Before counts tokens goals values words s
     goals values words s
@@ -150,9 +155,11 @@ begins counts tokens goals values words s st =
     let d = length-drop (s .at) tokens in
     record {
       state = st;
-      kept = record { ordered = st .ordered; long = st .words-long; terms-stay = λ i h. refl };
+      kept = record { ordered = st .ordered; long = refl; terms-stay = λ i h. refl };
       fewer = omega arith;
       resumes = record { steps = 8 * length (drop (s .at) tokens) + suc (length (goalsOf goals (s .goals))); enough = omega arith; same = refl };
+      goals-stay = refl;
+      values-stay = refl;
     }
 
 module _ (counts tokens goals₀ values₀ words₀ : List ℕ) (s₀ : Standing) (goals values words : List ℕ) (s : Standing)
@@ -160,10 +167,13 @@ module _ (counts tokens goals₀ values₀ words₀ : List ℕ) (s₀ : Standing
   abbrev R : definition.Parsed
   R = readFrom counts tokens goals₀ values₀ words₀ s₀
 
+  abbrev terms : ℕ
+  terms = termsLeft words (s .left)
+
   some-steps : 0 < b .resumes .steps
   some-steps = let e = b .resumes .enough in omega arith
 
-  pub last-ends : s .goals ≡ 0 → (2 ≤ s .values) × (s .values ≤ 3108) × (1024 ≤ getD values (s .values - 2) 0)
+  pub last-ends : s .goals ≡ 0 → (2 ≤ s .values) × (s .values ≤ length values) × (1024 ≤ getD values (s .values - 2) 0)
   unfolding goalsOf
   last-ends e =
       let f = rw e at (b .state .fits) in
@@ -177,8 +187,8 @@ module _ (counts tokens goals₀ values₀ words₀ : List ℕ) (s₀ : Standing
   run-ends e r q =
       let f = rw e at (b .state .fits) in
       let z = ends words values (b .state .ordered) (s .values) (s .left) (b .state .entries) f in
-      let p : R ≡ definition.parsed (valuesOf words values (s .values)) (s .left) (drop (s .at) tokens) =
-      b .resumes .same ∙ parse-end counts goals (valuesOf words values (s .values)) (s .left) (drop (s .at) tokens) (s .goals) (b .resumes .steps) e
+      let p : R ≡ definition.parsed (valuesOf words values (s .values)) terms (drop (s .at) tokens) =
+      b .resumes .same ∙ parse-end counts goals (valuesOf words values (s .values)) terms (drop (s .at) tokens) (s .goals) (b .resumes .steps) e
       some-steps
       in
       record {
@@ -202,34 +212,68 @@ module _ (counts tokens goals₀ values₀ words₀ : List ℕ) (s₀ : Standing
   unfolding reasonOf
   nesting p = record { reads = rw p (refl, refl); kept = b .kept }
 
-  pub run-many : 8400 < s .goals → Ran tokens words₀ words (s₀ .left) R (Stopped 1001 (s .at))
-  run-many h = nesting (b .resumes .same ∙ parse-many counts goals (valuesOf words values (s .values)) (s .left) (drop (s .at) tokens) (s .goals)
-      (b .resumes .steps) h some-steps)
+  -- the arrays are short
+  full : length words < 1024 → Ran tokens words₀ words (s₀ .left) R Full
+  full h = record { reads = each R; kept = b .kept }
+    where
+      each : (x : definition.Parsed) → Reads tokens words (s₀ .left) x Full
+      each (definition.parsed vs n rest) = h
+      each (definition.stopped x rest) = h
 
-  module _ (d : s .goals ≡ 0 → ⊥) (l : s .goals ≤ 8400) where
-    pub run-full : 3100 < s .values → Ran tokens words₀ words (s₀ .left) R (Stopped 1001 (s .at))
+  -- or goals or values are too many
+  crowded : (length words ≡ 1024 → R ≡ definition.stopped Reason.nesting (drop (s .at) tokens)) → (r : Parsed) → r ≡ crowdedBy words (s .at)
+      → Ran tokens words₀ words (s₀ .left) R r
+  unfolding crowdedBy
+  crowded p r q = go (decLt (length words) 1024)
+    where
+      go : Dec (length words < 1024) → Ran tokens words₀ words (s₀ .left) R r
+      go (yes h) = rw (q, lt-ltb (length words) 1024 h) (full h)
+      go (no h) = let m = b .state .sized .most-words in rw (q, le-ltb (length words) 1024 (omega (arith, h))) (nesting (p (omega (arith, h))))
+
+  pub run-many : length goals - 8 < s .goals → (r : Parsed) → r ≡ crowdedBy words (s .at) → Ran tokens words₀ words (s₀ .left) R r
+  run-many h = crowded (λ e. b .resumes .same ∙ parse-many counts goals (valuesOf words values (s .values)) terms (drop (s .at) tokens) (s .goals)
+      (b .resumes .steps) (let w = b .state .sized .whole e .0 in omega arith) some-steps)
+
+  module _ (d : s .goals ≡ 0 → ⊥) (l : s .goals ≤ length goals - 8) where
+    few : s .goals ≤ 8400
+    few = let m = b .state .sized .most-goals in omega arith
+
+    pub run-full : length values - 8 < s .values → (r : Parsed) → r ≡ crowdedBy words (s .at) → Ran tokens words₀ words (s₀ .left) R r
     run-full h =
         let v = length-values words values (s .values) in
-        nesting (b .resumes .same ∙ parse-full counts goals (valuesOf words values (s .values)) (s .left) (drop (s .at) tokens) (s .goals)
-        (b .resumes .steps) (omega (arith, d)) l (omega arith) some-steps)
+        crowded (λ e. b .resumes .same ∙ parse-full counts goals (valuesOf words values (s .values)) terms (drop (s .at) tokens) (s .goals)
+        (b .resumes .steps) (omega (arith, d)) few (let w = b .state .sized .whole e .1 in omega arith) some-steps)
 
-    module _ (k : s .values ≤ 3100) where
-      pub going : Going s
-      going = record { some-goal = omega (arith, d); few-goals = l; few-values = k }
+    pub run-short : (eqb (s .left) 0 && ltb (length words) 1024) ≡ true → Ran tokens words₀ words (s₀ .left) R Full
+    run-short e = full (ltb-true (length words) 1024 (and-second (eqb (s .left) 0) (ltb (length words) 1024) e))
+
+    pub none-left : (eqb (s .left) 0 && ltb (length words) 1024) ≡ false → NoneLeft words s
+    none-left f e = go (decLt (length words) 1024)
+      where
+        go : Dec (length words < 1024) → length words ≡ 1024
+        go (yes h) = absurd (true≢false (rw (eq-eqb (s .left) 0 e, lt-ltb (length words) 1024 h) at f))
+        go (no h) = let m = b .state .sized .most-words in omega (arith, h)
+
+    module _ (k : s .values ≤ length values - 8) where
+      pub going : Going goals values s
+      going =
+          let g = b .state .sized .some-goals in
+          let v = b .state .sized .some-values in
+          record { some-goal = omega (arith, d); few-goals = omega arith; few-values = omega arith }
 
       turn-same : (goals′ values′ words′ : List ℕ) (r : Turn) → Turned tokens counts goals values words goals′ values′ words′ s r → R ≡ resumed counts
           (b .resumes .steps - 1) (shown tokens goals′ values′ words′ r)
       turn-same goals′ values′ words′ r t =
           let v = length-values words values (s .values) in
           b .resumes .same
-          ∙ parse-turn counts goals (valuesOf words values (s .values)) (s .left) (drop (s .at) tokens) (s .goals) (b .resumes .steps) (omega (arith, d)) l
-          (omega arith) some-steps
+          ∙ parse-turn counts goals (valuesOf words values (s .values)) terms (drop (s .at) tokens) (s .goals) (b .resumes .steps) (omega (arith, d)) few
+          (let m = b .state .sized .most-values in omega arith) some-steps
           ∙ ap (resumed counts (b .resumes .steps - 1)) (sym (t .says))
 
       still : (words′ : List ℕ) → Kept (s .left) words words′ → Kept (s₀ .left) words₀ words′
       still words′ q = record {
         ordered = q .ordered;
-        long = q .long;
+        long = q .long ∙ b .kept .long;
         terms-stay = λ i h. let f = b .fewer in q .terms-stay i (omega arith) ∙ b .kept
             .terms-stay i h;
       }
@@ -247,6 +291,8 @@ module _ (counts tokens goals₀ values₀ words₀ : List ℕ) (s₀ : Standing
             kept = still words′ (t .kept);
             fewer = omega arith;
             resumes = record { steps = b .resumes .steps - 1; enough = omega arith; same = turn-same goals′ values′ words′ (On s′) t };
+            goals-stay = t .goals-stay ∙ b .goals-stay;
+            values-stay = t .values-stay ∙ b .values-stay;
           }
 
       pub run-stops : (goals′ values′ words′ : List ℕ) (reason at : ℕ) → Turned tokens counts goals values words goals′ values′ words′ s (Stop reason at)
@@ -265,8 +311,8 @@ procedure-fits zero h = λ v t. (t, (omega arith, tt))
 procedure-fits (suc p) h = (omega arith, (omega arith, (omega arith, λ n k. (omega arith, (omega arith, λ v t. (t, (k, tt)))))))
 
 module _ (tokens goals goals′ values words : List ℕ) (at p top left : ℕ) (few : length tokens ≤ 16384) (inside : at ≤ length tokens) (below : p < 32)
-    (room : left ≤ 1024)
-    (long : length words ≡ 1024) (o : Ordered words) (size : length values ≡ 3108) (first : getD values 0 0 ≡ 1024)
+    (room : left ≤ length words)
+    (o : Ordered words) (z : Sized goals values words) (first : getD values 0 0 ≡ 1024)
     (g : Stacked (λ gs. procedureGoals p ++ gs) goals 0 goals′ top) (t : top ≤ 7) where
   abbrev start : Standing
   start = record { at = at; goals = top; values = 1; left = left }
@@ -282,19 +328,17 @@ module _ (tokens goals goals′ values words : List ℕ) (at p top left : ℕ) (
   pub starts : State tokens goals′ values words start
   starts =
       record {
-        goals-long = g .long;
-        values-long = size;
-        words-long = long;
+        sized = resized z (g .long) refl refl;
         tokens-few = few;
         ordered = o;
         inside = inside;
-        goals-few = omega arith;
-        values-few = omega arith;
+        goals-few = let a = z .some-goals in let l = g .long in omega arith;
+        values-few = let a = z .some-values in omega arith;
         left-few = room;
-        entries = λ i h. let e : i ≡ 0 = omega arith in rw (e, first) (room, omega arith);
+        entries = λ i h. let e : i ≡ 0 = omega arith in let m = z .most-words in rw (e, first) (omega arith, omega arith);
         fits = rw (first-goals, first-values) (procedure-fits p below);
       }
 
   pub started : (counts words′ : List ℕ) (r : Parsed) → Ran tokens words words′ left (readFrom counts tokens goals′ values words start) r
-      → Ran tokens words words′ left (parse counts (procedureGoals p) (number 0 ∷ []) left (drop at tokens)) r
+      → Ran tokens words words′ left (parse counts (procedureGoals p) (number 0 ∷ []) (termsLeft words left) (drop at tokens)) r
   started counts words′ r q = rw (first-goals, first-values) at q

@@ -28,14 +28,14 @@ unfolding goalsOf
 goals-frame goals i v zero h = refl
 goals-frame goals i v (suc n) h = rw (getD-set-other goals i n v 0 (λ e. omega arith), goals-frame goals i v n (omega arith))
 
-pub stacks-none : (goals : List ℕ) (top code : ℕ) → length goals ≡ 8408 → code ≡ 0 → Stacked (stacked code) goals top goals top
+pub stacks-none : (goals : List ℕ) (top code : ℕ) → code ≡ 0 → Stacked (stacked code) goals top goals top
 unfolding stacked
-stacks-none goals top code l e = record { goals-are = rw e; long = l; above = omega arith }
+stacks-none goals top code e = record { goals-are = rw e; long = refl; above = omega arith }
 
-pub stacks-one : (goals : List ℕ) (top code v : ℕ) → length goals ≡ 8408 → top < 8408 → (code ≡ 0 → ⊥) → v ≡ code → Stacked (stacked code) goals top
+pub stacks-one : (goals : List ℕ) (top code v : ℕ) → top < length goals → (code ≡ 0 → ⊥) → v ≡ code → Stacked (stacked code) goals top
     (set goals top v) (top + 1)
 unfolding goalsOf
-stacks-one goals top code v l h d e =
+stacks-one goals top code v h d e =
     record {
       goals-are = rw (
         add-one,
@@ -45,7 +45,7 @@ stacks-one goals top code v l h d e =
         stacked-some code (goalOf code)
             (goalsOf goals top) (omega (arith, d)) refl,
       );
-      long = length-set goals top v ∙ l;
+      long = length-set goals top v;
       above = omega arith;
     }
 
@@ -69,21 +69,21 @@ module _ (words : List ℕ) where
   values-rest values (suc n) (suc zero) h = let e : n ≡ suc n - 1 = omega arith in ap (valuesOf words values) e
   values-rest values n (suc (suc k)) h = absurd (omega arith)
 
-pub puts-none : (values : List ℕ) (n popped value m : ℕ) → length values ≡ 3108 → popped ≤ 1 → value ≡ 0 → m ≡ n - popped → Put popped value values n values m
+pub puts-none : (values : List ℕ) (n popped value m : ℕ) → popped ≤ 1 → value ≡ 0 → m ≡ n - popped → Put popped value values n values m
 unfolding pushed
-puts-none values n popped value m l h e q =
+puts-none values n popped value m h e q =
     record {
       values-are = λ words. rw (values-rest words values n popped h, e, q);
-      long = l;
+      long = refl;
       entries = λ left b d i k. d i (omega arith);
       few = omega arith;
     }
 
-pub puts-one : (values : List ℕ) (n popped value m : ℕ) → length values ≡ 3108 → n < 3108 → popped ≤ 1 → 1024 ≤ value → value < 1024 + 4294967296 → m ≡ n -
+pub puts-one : (values : List ℕ) (n popped value m : ℕ) → n < length values → popped ≤ 1 → 1024 ≤ value → value < 1024 + 4294967296 → m ≡ n -
     popped
     → Put popped value values n (set values m value) (m + 1)
 unfolding valueOf
-puts-one values n popped value m l b h g s q =
+puts-one values n popped value m b h g s q =
     record {
       values-are =
           λ words. rw (
@@ -93,7 +93,7 @@ puts-one values n popped value m l b h g s q =
             values-rest words values n popped h,
             q,
           );
-      long = length-set values m value ∙ l;
+      long = length-set values m value;
       entries = λ left c d i k. each left c d i k (decLt i m);
       few = omega arith;
     }
@@ -134,7 +134,7 @@ module _ (words : List ℕ) (v : ℕ) where
 pub stacks-twice : (f g : List Goal → List Goal) (goals : List ℕ) (n : ℕ) (goals′ : List ℕ) (n′ : ℕ) (goals″ : List ℕ) (n″ : ℕ)
     → Stacked f goals n goals′ n′ → Stacked g goals′ n′ goals″ n″ → Stacked (λ gs. g (f gs)) goals n goals″ n″
 stacks-twice f g goals n goals′ n′ goals″ n″ p q =
-    record { goals-are = q .goals-are ∙ ap g (p .goals-are); long = q .long; above = let a = p .above in let b = q .above in omega arith }
+    record { goals-are = q .goals-are ∙ ap g (p .goals-are); long = q .long ∙ p .long; above = let a = p .above in let b = q .above in omega arith }
 
 -- ---- tokens
 
@@ -191,7 +191,7 @@ unfolding valuesOf lastOf valueOf
 last-value words values zero = refl
 last-value words values (suc n) = let e : suc n - 1 ≡ n = omega arith in rw (ne-eqb (suc n) 0 (λ d. omega arith), e)
 
-last-small : (values : List ℕ) (n : ℕ) → Entries 0 values n → lastOf values n < 1024 + 4294967296
+pub last-small : (values : List ℕ) (n : ℕ) → Entries 0 values n → lastOf values n < 1024 + 4294967296
 unfolding lastOf
 last-small values zero h = omega arith
 last-small values (suc n) h = let e : suc n - 1 ≡ n = omega arith in rw (ne-eqb (suc n) 0 (λ d. omega arith), e) (h n (omega arith) .1)

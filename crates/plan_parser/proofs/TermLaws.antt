@@ -316,7 +316,7 @@ made-is k vs = refl
 
 -- ---- the term that is made
 
-module _ (words : List ℕ) (o : Ordered words) (long : length words ≡ 1024) (m left : ℕ) (next : left ≡ suc m) (room : left ≤ 1024) (values : List ℕ)
+module _ (words : List ℕ) (o : Ordered words) (long : length words ≤ 1024) (m left : ℕ) (next : left ≡ suc m) (room : left ≤ length words) (values : List ℕ)
     (n k : ℕ) (h : k < 21)
     (p : Operands (getD operandKinds k []) (valuesOf words values n)) (e : Entries left values n) where
   abbrev count : ℕ

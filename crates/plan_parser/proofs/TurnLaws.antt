@@ -15,12 +15,11 @@ use Rattle.plan_parser_goals.specs.inner.Encoded.{goalOf, reasonOf, goalsOf, va
 use Rattle.plan_parser_goals.specs.inner.Moves.{Operands, operandKinds, Fits, onto, done, Small, Calls, Sound}
 use Rattle.plan_parser.specs.inner.Stacks.{Entries, Stacked, Put, Looks}
 use Rattle.plan_parser.specs.inner.Making.{Makeable, Makes}
-use Rattle.plan_parser.specs.inner.Reading.{State, Going, Found, Room, Went, WentWith, shown, Nearer, Kept, Turned}
+use Rattle.plan_parser.specs.inner.Reading.{Sized, termsLeft, State, Going, NoneLeft, Found, Went, WentWith, shown, Nearer, Kept, Turned}
 use Rattle.plan_parser.specs.declared.turns.Standing.{Standing}
 use Rattle.plan_parser.specs.declared.turns.Turn.the-variants.{On}
 use Rattle.plan_parser.specs.declared.turns.Turn.the-variants as turn
-use Rattle.plan_parser_goals.specs.declared.Move.{Move}
-use Rattle.plan_parser_goals.specs.declared.Move.the-variants.{Go, Make, Stop}
+use Rattle.plan_parser_goals.specs.inner.Moves.{Move, Go, Make, Stop}
 use Rattle.plan_parser.proofs.FitLaws.{FitsAfter, step-fits, fits-sound}
 
 -- ---- numbers
@@ -48,11 +47,24 @@ taken-there l a (suc (suc (suc zero))) x y z i f b₀ b₁ b₂ c₀ c₁ c₂ =
 taken-there l a (suc (suc (suc (suc t)))) x y z i f b₀ b₁ b₂ c₀ c₁ c₂ = absurd (omega arith)
 
 -- what is left to do becomes less
-bounds : (l a g t k n d a′ g′ : ℕ) → a + t ≤ l → 0 < g → g ≤ 8400 → k ≤ 1024 * t → n ≤ 1024 * t → d ≤ 1152921504606846976 * t → a′ ≡ a + t → g′ ≤ g - 1 + 8
+bounds : (l a g t k n d a′ g′ : ℕ) → a + t ≤ l → 0 < g → k ≤ 1024 * t → n ≤ 1024 * t → d ≤ 1152921504606846976 * t → a′ ≡ a + t → g′ ≤ g - 1 + 8
     → g′ ≤ g - 1 + k + n + 6 * d
-    → (a′ ≤ l) × (g′ ≤ 8407) × (8 * (l - a′) + g′ < 8 * (l - a) + g)
-bounds l a g zero k n d a′ g′ i p q e₀ e₁ e₂ r u v = (omega arith, omega arith, omega arith)
-bounds l a g (suc t) k n d a′ g′ i p q e₀ e₁ e₂ r u v = (omega arith, omega arith, omega arith)
+    → (a′ ≤ l) × (8 * (l - a′) + g′ < 8 * (l - a) + g)
+bounds l a g zero k n d a′ g′ i p e₀ e₁ e₂ r u v = (omega arith, omega arith)
+bounds l a g (suc t) k n d a′ g′ i p e₀ e₁ e₂ r u v = (omega arith, omega arith)
+
+-- arrays of the same lengths
+pub resized : {goals values words goals′ values′ words′ : List ℕ} → Sized goals values words → length goals′ ≡ length goals → length values′ ≡ length values
+    → length words′ ≡ length words → Sized goals′ values′ words′
+resized z g v w =
+    record {
+      some-goals = rw g (z .some-goals);
+      most-goals = rw g (z .most-goals);
+      some-values = rw v (z .some-values);
+      most-values = rw v (z .most-values);
+      most-words = rw w (z .most-words);
+      whole = λ e. let q = z .whole (sym w ∙ e) in (g ∙ q .0, v ∙ q .1);
+    }
 
 -- ---- the goal on top
 
@@ -67,7 +79,7 @@ unfolding onto
 fits-onto gs (go gs′ vs m ts) gs″ vs″ n ts″ e f = let p : gs″ ≡ gs′ ++ gs = cc in let q : vs″ ≡ vs = cc in rw (p, q) f
 fits-onto gs (stop r ts) gs″ vs″ n ts″ e f = let z : _≡_ {A = ℕ} 0 1 = cc in absurd (omega arith)
 
-module _ (tokens counts goals values words : List ℕ) (s : Standing) (st : State tokens goals values words s) (gg : Going s) where
+module _ (tokens counts goals values words : List ℕ) (s : Standing) (st : State tokens goals values words s) (gg : Going goals values s) where
   abbrev top : ℕ
   top = s .goals - 1
 
@@ -79,6 +91,9 @@ module _ (tokens counts goals values words : List ℕ) (s : Standing) (st : Stat
 
   abbrev held : List Value
   held = valuesOf words values (s .values)
+
+  abbrev terms : ℕ
+  terms = termsLeft words (s .left)
 
   abbrev ahead : List ℕ
   ahead = drop (s .at) tokens
@@ -95,46 +110,29 @@ module _ (tokens counts goals values words : List ℕ) (s : Standing) (st : Stat
   -- ---- a move
 
   module _ (taken kept next digits popped value : ℕ) (f : Found tokens counts goals values words s (Go taken kept next digits popped value)) where
-    pub room : Room goals values s taken kept next popped value
-    room =
-        let m = f .calls .slight in
-        let i = st .inside in
-        let k = st .tokens-few in
-        record {
-          goals-long = st .goals-long;
-          values-long = st .values-long;
-          going = gg;
-          at-small = omega arith;
-          taken-small = let t = m .to-third in omega arith;
-          kept-small = m .kept-small;
-          next-small = m .next-small;
-          popped-small = m .popped-small;
-          value-large = m .value-large;
-          value-small = m .value-small;
-        }
-
     module _ (goals′ values′ : List ℕ) (s′ : Standing) (w : Went goals values s taken kept next digits popped value goals′ values′ s′) where
-      went-says : shown tokens goals′ values′ words (On s′) ≡ onto below (step counts (goalOf code) held (s .left) ahead)
+      went-says : shown tokens goals′ values′ words (On s′) ≡ onto below (step counts (goalOf code) held terms ahead)
       unfolding shown done
       went-says =
           rw (w .on-goals .goals-are, w .on-values .values-are words, w .left-is, w .at-is, ← drop-drop taken (s .at) tokens)
-          (f .calls .does below held (s .left) ahead fit (f .looks .seen))
+          (f .calls .does below held terms ahead fit (f .looks .seen))
 
       went-fits : Fits (goalsOf goals′ (s′ .goals)) (valuesOf words values′ (s′ .values))
       unfolding shown
       went-fits =
-          fits-onto below (step counts (goalOf code) held (s .left) ahead) (goalsOf goals′ (s′ .goals)) (valuesOf words values′ (s′ .values)) (s′ .left)
+          fits-onto below (step counts (goalOf code) held terms ahead) (goalsOf goals′ (s′ .goals)) (valuesOf words values′ (s′ .values)) (termsLeft words
+          (s′ .left))
           (drop (s′ .at) tokens) went-says
-          (step-fits below counts (f .counts-small) (s .left) ahead (goalOf code) held fit)
+          (step-fits below counts (f .counts-small) terms ahead (goalOf code) held fit)
 
-      went-bounds : (s′ .at ≤ length tokens) × (s′ .goals ≤ 8407) × (8 * (length tokens - s′ .at) + s′ .goals < 8 * (length tokens - s .at) + s .goals)
+      went-bounds : (s′ .at ≤ length tokens) × (8 * (length tokens - s′ .at) + s′ .goals < 8 * (length tokens - s .at) + s .goals)
       went-bounds =
           let m = f .calls .slight in
           let k = f .looks in
           let there = taken-there (length tokens) (s .at) taken (f .sight .first) (f .sight .second) (f .sight .third) (st .inside) (m .taken-few)
           (m .to-first) (m .to-second) (m .to-third) (k .first-inside) (k .second-inside) (k .third-inside)
           in
-          bounds (length tokens) (s .at) (s .goals) taken kept next digits (s′ .at) (s′ .goals) there (gg .some-goal) (gg .few-goals)
+          bounds (length tokens) (s .at) (s .goals) taken kept next digits (s′ .at) (s′ .goals) there (gg .some-goal)
           (m .kept-taken) (m .next-taken) (m .goals-taken) (w .at-is) (w .few) (w .fewer)
 
       pub turned-on : Turned tokens counts goals values words goals′ values′ words s (On s′)
@@ -145,22 +143,23 @@ module _ (tokens counts goals values words : List ℕ) (s : Standing) (st : Stat
                 record {
                   state =
                       record {
-                        goals-long = w .on-goals .long;
-                        values-long = w .on-values .long;
-                        words-long = st .words-long;
+                        sized = resized (st .sized) (w .on-goals .long) (w .on-values .long) refl;
                         tokens-few = st .tokens-few;
                         ordered = st .ordered;
                         inside = went-bounds .0;
-                        goals-few = went-bounds .1;
-                        values-few = let a = w .on-values .few in let b = gg .few-values in omega arith;
+                        goals-few = let l = w .on-goals .long in let a = w .few in let b = gg .few-goals in let d = gg .some-goal in omega arith;
+                        values-few = let l = w .on-values .long in let a = w .on-values .few in let b = gg .few-values in omega arith;
                         left-few = rw (w .left-is) (st .left-few);
-                        entries = rw (w .left-is) (w .on-values .entries (s .left) (st .left-few) (st .entries));
+                        entries = rw (w .left-is) (w .on-values .entries (s .left) (let f = st .left-few in let m = st .sized .most-words in omega arith)
+                            (st .entries));
                         fits = went-fits;
                       };
-                  less = went-bounds .2;
+                  less = went-bounds .1;
                   fewer = let e = w .left-is in omega arith;
                 };
-            kept = record { ordered = st .ordered; long = st .words-long; terms-stay = λ i h. refl };
+            kept = record { ordered = st .ordered; long = refl; terms-stay = λ i h. refl };
+            goals-stay = w .on-goals .long;
+            values-stay = w .on-values .long;
           }
 
   -- ---- a term
@@ -169,16 +168,18 @@ module _ (tokens counts goals values words : List ℕ) (s : Standing) (st : Stat
     make-fit : Fits (make k ∷ below) held
     make-fit = subst (λ (g : Goal). Fits (g ∷ below) held) (f .calls .slight) fit
 
-    make-does : done (Make k) below held (s .left) ahead ≡ onto below (step counts (goalOf code) held (s .left) ahead)
-    make-does = f .calls .does below held (s .left) ahead fit (f .looks .seen)
+    make-does : done (Make k) below held terms ahead ≡ onto below (step counts (goalOf code) held terms ahead)
+    make-does = f .calls .does below held terms ahead fit (f .looks .seen)
 
-    pub turned-none : s .left ≡ 0 → Turned tokens counts goals values words goals values words s (turn.Stop 1000 (s .at))
+    pub turned-none : NoneLeft words s → s .left ≡ 0 → Turned tokens counts goals values words goals values words s (turn.Stop 1000 (s .at))
     unfolding shown done reasonOf
-    turned-none e =
+    turned-none none e =
         record {
-          says = sym (rw (eq-eqb (s .left) 0 e) at (sym make-does));
+          says = let l = none e in sym (rw (eq-eqb terms 0 (omega arith)) at (sym make-does));
           next = tt;
-          kept = record { ordered = st .ordered; long = st .words-long; terms-stay = λ i h. refl };
+          kept = record { ordered = st .ordered; long = refl; terms-stay = λ i h. refl };
+          goals-stay = refl;
+          values-stay = refl;
         }
 
     pub makeable : (s .left ≡ 0 → ⊥) → Makeable words values (s .values) (s .left) k
@@ -187,25 +188,30 @@ module _ (tokens counts goals values words : List ℕ) (s : Standing) (st : Stat
           tag-known = make-fit .0;
           some-left = omega (arith, d);
           few-left = st .left-few;
+          few-words = st .sized .most-words;
           few = let b = gg .few-values in omega arith;
-          words-long = st .words-long;
-          values-long = st .values-long;
           ordered = st .ordered;
           entries = st .entries;
           operands = make-fit .1;
         }
 
     module _ (d : s .left ≡ 0 → ⊥) (words′ values′ : List ℕ) (s′ : Standing) (w : WentWith words values s k words′ values′ s′) where
-      made-says : shown tokens goals values′ words′ (On s′) ≡ onto below (step counts (goalOf code) held (s .left) ahead)
+      fewer-terms : termsLeft words′ (s′ .left) ≡ terms - 1
+      fewer-terms = let l = w .makes .words-long in let e = w .left-is in omega (arith, d)
+
+      made-says : shown tokens goals values′ words′ (On s′) ≡ onto below (step counts (goalOf code) held terms ahead)
       unfolding shown done
-      made-says = rw (w .goals-are, w .makes .values-are, w .left-is, w .at-is) (rw (ne-eqb (s .left) 0 d) at make-does)
+      made-says =
+          rw (w .goals-are, w .makes .values-are, w .at-is, fewer-terms)
+          (rw (ne-eqb terms 0 (λ e. d (omega arith))) at make-does)
 
       made-fits : Fits (goalsOf goals (s′ .goals)) (valuesOf words′ values′ (s′ .values))
       unfolding shown
       made-fits =
-          fits-onto below (step counts (goalOf code) held (s .left) ahead) (goalsOf goals (s′ .goals)) (valuesOf words′ values′ (s′ .values)) (s′ .left)
+          fits-onto below (step counts (goalOf code) held terms ahead) (goalsOf goals (s′ .goals)) (valuesOf words′ values′ (s′ .values))
+          (termsLeft words′ (s′ .left))
           (drop (s′ .at) tokens) made-says
-          (step-fits below counts (f .counts-small) (s .left) ahead (goalOf code) held fit)
+          (step-fits below counts (f .counts-small) terms ahead (goalOf code) held fit)
 
       pub turned-made : Turned tokens counts goals values words goals values′ words′ s (On s′)
       turned-made =
@@ -221,15 +227,13 @@ module _ (tokens counts goals values words : List ℕ) (s : Standing) (st : Stat
                 record {
                   state =
                       record {
-                        goals-long = st .goals-long;
-                        values-long = w .makes .values-long;
-                        words-long = w .makes .words-long;
+                        sized = resized (st .sized) refl (w .makes .values-long) (w .makes .words-long);
                         tokens-few = st .tokens-few;
                         ordered = w .makes .ordered;
                         inside = omega arith;
                         goals-few = let b = st .goals-few in omega arith;
-                        values-few = let b = w .makes .few in let c = gg .few-values in omega arith;
-                        left-few = omega arith;
+                        values-few = let l = w .makes .values-long in let b = w .makes .few in let c = gg .few-values in omega arith;
+                        left-few = let l = w .makes .words-long in omega arith;
                         entries = rw (w .left-is) (w .makes .entries);
                         fits = made-fits;
                       };
@@ -237,6 +241,8 @@ module _ (tokens counts goals values words : List ℕ) (s : Standing) (st : Stat
                   fewer = omega arith;
                 };
             kept = record { ordered = w .makes .ordered; long = w .makes .words-long; terms-stay = w .makes .terms-stay };
+            goals-stay = refl;
+            values-stay = w .makes .values-long;
           }
 
   -- ---- a stop
@@ -246,7 +252,9 @@ module _ (tokens counts goals values words : List ℕ) (s : Standing) (st : Stat
   unfolding shown done
   turned-stop before reason f =
       record {
-        says = rw (← drop-drop before (s .at) tokens) (f .calls .does below held (s .left) ahead fit (f .looks .seen));
+        says = rw (← drop-drop before (s .at) tokens) (f .calls .does below held terms ahead fit (f .looks .seen));
         next = tt;
-        kept = record { ordered = st .ordered; long = st .words-long; terms-stay = λ i h. refl };
+        kept = record { ordered = st .ordered; long = refl; terms-stay = λ i h. refl };
+        goals-stay = refl;
+        values-stay = refl;
       }

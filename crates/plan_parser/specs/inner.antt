@@ -2,3 +2,4 @@
 pub mod Stacks
 pub mod Making
 pub mod Reading
+pub mod Turning

@@ -1,6 +1,5 @@
 // The arrays of goals and of values.
 use byte_numbers::wide;
-use plan_parser_goals::Sight;
 ghost use mathlib.Core.Path.{_≡_};
 ghost use mathlib.Core.Bool.{cond};
 ghost use Prim.Native.Nat.{_<_, _≤_, _+_, _-_, _*_, _/_, _%_};
@@ -9,11 +8,11 @@ ghost use lib.ListN.{length, getD};
 ghost use mathlib.Core.List.{_++_};
 ghost use Rattle.plan_parsing.specs.Plan.{procedureGoals};
 ghost use Rattle.plan_parser_goals.specs.inner.Encoded.{valueOf, valueSort, stacked, unpacked};
-ghost use Rattle.plan_parser.specs.inner.Stacks.{Stacked, Entries, Put, Looks, lastOf, operandAt};
+ghost use Rattle.plan_parser.specs.inner.Stacks.{Stacked, Put, lastOf, operandAt};
 
 // A goal on the others; 0 is none.
-fn stack(goals: &mut [u16; 8408], top: usize, code: usize) -> usize
-    requires { ⌜ (top < 8408) × (code < 1024) × (length (now goals) ≡ 8408) ⌝ }
+fn stack(goals: &mut [u16], top: usize, code: usize) -> usize
+    requires { ⌜ (top < length (now goals)) × (length (now goals) ≤ 8408) × (code < 1024) ⌝ }
     ensures { λ r. ⌜ Stacked (stacked code) (now (goals .entry)) top (now (goals .exit)) r × (r ≤ top + 1) × (r ≤ top + code) ⌝ }
 {
     if code == 0 {
@@ -24,8 +23,8 @@ fn stack(goals: &mut [u16; 8408], top: usize, code: usize) -> usize
 }
 
 // The goals of six digits on the others.
-fn stack_digits(goals: &mut [u16; 8408], top: usize, digits: usize) -> usize
-    requires { ⌜ (top + 6 < 8408) × (length (now goals) ≡ 8408) ⌝ }
+fn stack_digits(goals: &mut [u16], top: usize, digits: usize) -> usize
+    requires { ⌜ (top + 6 < length (now goals)) × (length (now goals) ≤ 8408) ⌝ }
     ensures { λ r. ⌜ Stacked (unpacked digits) (now (goals .entry)) top (now (goals .exit)) r × (r ≤ top + 6) × (r ≤ top + 6 * digits) ⌝ }
 {
     let first = stack(&mut *goals, top, digits % 1024);
@@ -37,14 +36,8 @@ fn stack_digits(goals: &mut [u16; 8408], top: usize, digits: usize) -> usize
 }
 
 // The goals of a move on the others.
-pub fn stack_all(
-    goals: &mut [u16; 8408],
-    top: usize,
-    kept: usize,
-    next: usize,
-    digits: usize,
-) -> usize
-    requires { ⌜ (top + 8 < 8408) × (kept < 1024) × (next < 1024) × (length (now goals) ≡ 8408) ⌝ }
+pub fn stack_all(goals: &mut [u16], top: usize, kept: usize, next: usize, digits: usize) -> usize
+    requires { ⌜ (top + 8 < length (now goals)) × (length (now goals) ≤ 8408) × (kept < 1024) × (next < 1024) ⌝ }
     ensures { λ r. ⌜ Stacked (λ gs. unpacked digits (stacked next (stacked kept gs))) (now (goals .entry)) top (now (goals .exit)) r ⌝ }
     ensures { λ r. ⌜ (r ≤ top + 8) × (r ≤ top + kept + next + 6 * digits) ⌝ }
 {
@@ -53,9 +46,23 @@ pub fn stack_all(
     stack_digits(&mut *goals, second, digits)
 }
 
+fn half(code: u16) -> usize
+    ensures { λ r. ⌜ (r ≡ code) × (r < 65536) ⌝ }
+{
+    code as usize
+}
+
+// The goal at a place.
+pub fn goal(goals: &[u16], place: usize) -> usize
+    requires { ⌜ place < length (now goals) ⌝ }
+    ensures { λ r. ⌜ r ≡ getD (now (goals .entry)) place 0 ⌝ }
+{
+    half(goals[place])
+}
+
 // The goals of the procedure of this number.
-pub fn begin(goals: &mut [u16; 8408], number: usize) -> usize
-    requires { ⌜ (number < 32) × (length (now goals) ≡ 8408) ⌝ }
+pub fn begin(goals: &mut [u16], number: usize) -> usize
+    requires { ⌜ (number < 32) × (16 ≤ length (now goals)) × (length (now goals) ≤ 8408) ⌝ }
     ensures { λ r. ⌜ Stacked (λ gs. procedureGoals number ++ gs) (now (goals .entry)) 0 (now (goals .exit)) r × (r ≤ 7) ⌝ }
 {
     let body = stack(&mut *goals, 0, 161);
@@ -71,8 +78,8 @@ pub fn begin(goals: &mut [u16; 8408], number: usize) -> usize
 }
 
 // A value in place of so many; 0 is none.
-pub fn put(values: &mut [usize; 3108], top: usize, popped: usize, value: usize) -> usize
-    requires { ⌜ (top < 3108) × (popped ≤ 1) × (length (now values) ≡ 3108) ⌝ }
+pub fn put(values: &mut [usize], top: usize, popped: usize, value: usize) -> usize
+    requires { ⌜ (top < length (now values)) × (length (now values) ≤ 3108) × (popped ≤ 1) ⌝ }
     requires { ⌜ (1024 - value ≤ 1024 * (1 - value)) × (value < 1024 + 4294967296) ⌝ }
     ensures { λ r. ⌜ Put popped value (now (values .entry)) top (now (values .exit)) r ⌝ }
 {
@@ -92,7 +99,7 @@ pub fn put(values: &mut [usize; 3108], top: usize, popped: usize, value: usize) 
 }
 
 // The token at a place, or the end of the text.
-fn token(tokens: &[u8], at: usize) -> usize
+pub fn token(tokens: &[u8], at: usize) -> usize
     ensures { λ r. ⌜ (r ≡ getD (now (tokens .entry)) at 69) × (69 ≤ r + 69 * (length (now (tokens .entry)) - at)) ⌝ }
 {
     if tokens.len() <= at {
@@ -102,13 +109,13 @@ fn token(tokens: &[u8], at: usize) -> usize
 }
 
 // The sort of a value.
-fn sort(words: &[usize; 1024], value: usize) -> usize
+pub fn sort(words: &[usize], value: usize) -> usize
     ensures { λ r. ⌜ r ≡ valueSort (valueOf (now (words .entry)) value) ⌝ }
 {
     if 1023 < value {
         return 0;
     }
-    let tag = plan_operands::tag(words[value]);
+    let tag = plan_operands::tag(plan_words::word(words, value));
     if tag < 12 {
         return 1;
     }
@@ -122,8 +129,8 @@ fn sort(words: &[usize; 1024], value: usize) -> usize
 }
 
 // The value that was read last.
-fn last(values: &[usize; 3108], top: usize) -> usize
-    requires { ⌜ top ≤ 3108 ⌝ }
+pub fn last(values: &[usize], top: usize) -> usize
+    requires { ⌜ top ≤ length (now values) ⌝ }
     ensures { λ r. ⌜ r ≡ lastOf (now (values .entry)) top ⌝ }
 {
     if top == 0 {
@@ -133,7 +140,7 @@ fn last(values: &[usize; 3108], top: usize) -> usize
 }
 
 // The number that a value is; a term is taken for 0.
-fn number(value: usize) -> usize
+pub fn number(value: usize) -> usize
     ensures { λ r. ⌜ r ≡ cond (ltb value 1024) 0 (value - 1024) ⌝ }
 {
     if value < 1024 {
@@ -142,30 +149,9 @@ fn number(value: usize) -> usize
     value - 1024
 }
 
-// What a step sees.
-pub fn look(
-    tokens: &[u8],
-    at: usize,
-    words: &[usize; 1024],
-    values: &[usize; 3108],
-    top: usize,
-) -> Sight
-    requires { ⌜ (top ≤ 3108) × (at ≤ 16384) × Entries 0 (now values) top ⌝ }
-    ensures { λ r. ⌜ Looks (now (tokens .entry)) at (now (words .entry)) (now (values .entry)) top r ⌝ }
-{
-    let value = last(values, top);
-    Sight {
-        first: token(tokens, at),
-        second: token(tokens, at + 1),
-        third: token(tokens, at + 2),
-        sort: sort(words, value),
-        number: number(value),
-    }
-}
-
 // The number of an operand that is so far down, from 1; 0 is none.
-pub fn operand(values: &[usize; 3108], top: usize, back: usize) -> usize
-    requires { ⌜ (back ≤ top) × (top ≤ 3108) ⌝ }
+pub fn operand(values: &[usize], top: usize, back: usize) -> usize
+    requires { ⌜ (back ≤ top) × (top ≤ length (now values)) ⌝ }
     ensures { λ r. ⌜ r ≡ operandAt (now (values .entry)) top back ⌝ }
 {
     if back == 0 {

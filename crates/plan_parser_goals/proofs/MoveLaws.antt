@@ -16,11 +16,10 @@ use Rattle.plan_parsing.specs.Parser.{Reason, Step, go, stop, wanted, takesCond
 use Rattle.plan_parsing.specs.Parser.{operandStep, wordForm, begun}
 use Rattle.plan_parser_goals.specs.inner.Encoded.{goalOf, reasonOf, sortOf, stacked, unpacked, valueSort}
 use Rattle.plan_parser_goals.specs.inner.Moves.{IsBelow, MaskTo, Seen, Does, Calls, onto, pushed, done, formAt, PackedForm, Formed, Ends}
-use Rattle.plan_parser_goals.specs.declared.Sight.{Sight}
-use Rattle.plan_parser_goals.specs.declared.Move.{Move}
-use Rattle.plan_parser_goals.specs.declared.Move.the-variants.{Go, Make, Stop}
+use Rattle.plan_parser_goals.specs.inner.Moves.{Sight, Move, Go, Make, Stop}
 use Rattle.plan_parser_goals.proofs.FormTable.{form-condition, form-expression}
-use Rattle.plan_parser_goals.proofs.Numbers.{expect-goal, operand-goal, more-goal, fields-goal, further-goal, more-above, reason-goal, stacked-some}
+use Rattle.plan_parser_goals.proofs.Numbers.{expect-goal, operand-goal, more-goal, count-goal, fields-goal, further-goal}
+use Rattle.plan_parser_goals.proofs.Numbers.{more-above, reason-goal, stacked-some}
 use Rattle.plan_parser_goals.proofs.Numbers.{pushed-some, expression-is, condition-is, neither-is, takes, takes-not, inside-expression, inside-either}
 use Rattle.plan_parser_goals.proofs.Numbers.{fits-either, fits-same, fits-not, fits-neither}
 
@@ -72,9 +71,9 @@ module _ (counts : List ℕ) (s : Sight) where
   unfolding done onto step stacked unpacked
   count-number h gs vs n ts f k = rw (k .first-is, lt-ltb (s .first) 9 h, pushed-some (1024 + s .first) (s .first) vs refl)
 
-  pub count-stops : 9 ≤ s .first → Does (step counts count) count s (Stop 0 194)
-  unfolding done onto step reasonOf goalOf
-  count-stops h gs vs n ts f k = rw (k .first-is, le-ltb (s .first) 9 h)
+  pub count-stops : (c : ℕ) → 194 ≤ c → c < 256 → 9 ≤ s .first → Does (step counts count) count s (Stop 0 c)
+  unfolding done onto step
+  count-stops c l b h gs vs n ts f k = rw (k .first-is, le-ltb (s .first) 9 h, reason-goal c (omega arith), count-goal c l b)
 
   -- ---- a procedure and its arguments
 

@@ -3,12 +3,12 @@ use Prim.Native.Nat.{ℕ, suc, _+_, _-_, _<_, _≤_}
 use native.Mathlib.Nat.{add-zero}
 use native.Mathlib.Numerals.{add-one}
 use native.Mathlib.Omega.{arith}
-use mathlib.Core.Path.{_≡_, sym, ap, _∙_}
+use mathlib.Core.Path.{_≡_, refl, sym, ap, _∙_}
 use mathlib.Core.Bool.{Bool, true, false, cond, _||_}
-use lib.Dec.{eqb}
+use lib.Dec.{eqb, ltb}
 use lib.ListN.{length}
 use Rattle.plan_notation.specs.Tokens.{closing, inWord, elseWord, opening, letWord, ifWord, textEnd, textOf}
-use Rattle.plan_notation.specs.Layout.{Pen, apart, depthBefore, depthAfter, indentation, onNewLine, gap, columnAfter, penAfter}
+use Rattle.plan_notation.specs.Layout.{Pen, apart, breaks, depthBefore, depthAfter, indentation, onNewLine, gap, columnAfter, penAfter}
 use Rattle.plan_notation.proofs.Widths.{indented, column-below}
 use Rattle.plan_pen.specs.declared.Gap.{Gap}
 use Rattle.plan_pen.specs.inner.Pens.{gapBytes, Parts}
@@ -29,6 +29,11 @@ module _ (p : Pen) (t : ℕ) where
       by : (b : Bool) → depthBefore p t ≤ p .depth → cond b (suc (depthBefore p t)) (depthBefore p t) ≤ suc (p .depth)
       by true h = omega arith
       by false h = omega arith
+
+  -- a new line, by the test of the code
+  pub line-is : (b : Bool) (w : ℕ) → b ≡ breaks (p .last) t → w ≡ length (textOf t) → (b || ltb 98 (p .column + w)) ≡ onNewLine p t
+  unfolding onNewLine
+  line-is b w e f = rw (e, f) refl
 
   module _ (g : Gap) where
     -- a line feed and the indentation
@@ -78,3 +83,7 @@ module _ (p : Pen) (t : ℕ) where
     pub next-depth : p′ .depth ≤ suc (p .depth)
     unfolding penAfter
     next-depth = omega (arith, ap (λ (q : Pen). q .depth) e, depth-after-below)
+
+    pub next-last : t < textEnd → p′ .last ≤ textEnd
+    unfolding penAfter
+    next-last h = omega (arith, ap (λ (q : Pen). q .last) e)

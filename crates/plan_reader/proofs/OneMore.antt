@@ -22,6 +22,7 @@ use Rattle.plan_parsing.specs.Plan.{Reading, plan, fault, Fault, countsOf, proc
 use Rattle.plan_parsing.specs.Plan.{readPlan}
 use Rattle.plan_parsing.proofs.ReadRight.{ReadProcedure, main-read, procedure-read}
 use Rattle.plan_writer.specs.inner.Held.{heldProcedure, heldFrom, heldProgram}
+use Rattle.plan_parser.specs.inner.Reading.{termsLeft}
 use Rattle.plan_reader.specs.inner.Reading.{Going}
 use Rattle.plan_reader.proofs.HeldLaws.{tree-stays, held-more, held-stay, sizes-append}
 
@@ -30,15 +31,16 @@ abbrev before : ℕ → ℕ → List ℕ → List ℕ → List ℕ → ℕ → B
 before v m words roots counts p = record { version = v; mask = m; procedures = heldFrom words roots counts 0 p }
 
 -- a procedure has been read into the arrays
-pub record OneMore (words words′ : List ℕ) (left : ℕ) (vs : List Value) (n root k : ℕ) : Type 0 where
+pub record OneMore (words words′ : List ℕ) (left : ℕ) (vs : List Value) (n root k left′ : ℕ) : Type 0 where
   pub tree-is : treeIn words′ root ≡ expressionIn (valueAt vs 0)
   pub count-is : k ≡ numberIn (valueAt vs 1)
-  pub root-there : n ≤ root
+  pub terms-are : termsLeft words′ left′ ≡ n
+  pub root-there : left′ ≤ root
   pub root-below : root < 1024
   pub count-few : k < 9
-  pub fewer : n ≤ left
+  pub fewer : left′ ≤ left
   pub ordered : Ordered words′
-  pub words-long : length words′ ≡ 1024
+  pub words-long : length words′ ≡ length words
   pub stay : (i : ℕ) → left ≤ i → getD words′ i 0 ≡ getD words i 0
 
 -- ---- what the definition says of one procedure more
@@ -99,13 +101,13 @@ read-size counts (suc p) n m vs ts rest h e =
 
 module _ {ts : List ℕ} {v m : ℕ} {words roots counts : List ℕ} {p at left : ℕ} (g : Going ts v m words roots counts p at left) (h : p < 32) where
   abbrev result : Parsed
-  result = parse (countsOf ts) (procedureGoals p) (number 0 ∷ []) left (drop at ts)
+  result = parse (countsOf ts) (procedureGoals p) (number 0 ∷ []) (termsLeft words left) (drop at ts)
 
   abbrev further : Before → ℕ → List ℕ → Reading
   further b n us = proceduresBy (countsOf ts) (32 - p - 1) (suc p) b n us
 
   after : readPlan ts ≡ afterProcedure further (before v m words roots counts p) (drop at ts) result
-  after = g .same ∙ unrolled (countsOf ts) (32 - p) p (before v m words roots counts p) left (drop at ts) (omega arith)
+  after = g .same ∙ unrolled (countsOf ts) (32 - p) p (before v m words roots counts p) (termsLeft words left) (drop at ts) (omega arith)
 
   -- reading stops
   pub stops : (r : Reason) (rest : List ℕ) → result ≡ stopped r rest → readPlan ts ≡ fault (Fault.reading r) rest
@@ -121,7 +123,7 @@ module _ {ts : List ℕ} {v m : ℕ} {words roots counts : List ℕ} {p at left 
     pub opens : closed (λ x. ltb x (numberIn (valueAt vs 1))) (expressionIn (valueAt vs 0)) ≡ false → readPlan ts ≡ fault Fault.slots (drop at ts)
     opens c = read ∙ after-open further (before v m words roots counts p) (drop at ts) vs n rest c
 
-    module _ {words′ : List ℕ} {root k : ℕ} (o : OneMore words words′ left vs n root k) where
+    module _ {words′ : List ℕ} {root k left′ : ℕ} (o : OneMore words words′ left vs n root k left′) where
       abbrev roots′ : List ℕ
       roots′ = set roots p root
 
@@ -159,19 +161,20 @@ module _ {ts : List ℕ} {v m : ℕ} {words roots counts : List ℕ} {p at left 
       unfolding withProcedure
       with-one = ap (λ (ds : List Procedure). record { version = v; mask = m; procedures = ds }) (sym more)
 
-      pub sized-more : sizeOfAll (heldFrom words′ roots′ counts′ 0 (suc p)) + n ≡ 1024
+      pub sized-more : sizeOfAll (heldFrom words′ roots′ counts′ 0 (suc p)) + left′ ≡ length words′
       unfolding sizeOfAll
       sized-more =
-          by (sizeOfAll (heldFrom words roots counts 0 p)) (size (termsOf (expressionIn (valueAt vs 0)))) n left _
-          (ap sizeOfAll more ∙ sizes-append (heldFrom words roots counts 0 p) (one ∷ [])) (g .sized) (read-size (countsOf ts) p left n vs (drop at ts) rest h e)
+          by (sizeOfAll (heldFrom words roots counts 0 p)) (size (termsOf (expressionIn (valueAt vs 0)))) n left left′ (length words) (length words′) _
+          (ap sizeOfAll more ∙ sizes-append (heldFrom words roots counts 0 p) (one ∷ [])) (g .sized)
+          (read-size (countsOf ts) p (termsLeft words left) n vs (drop at ts) rest h e) (o .terms-are) (o .words-long)
         where
-          by : (a b n l s : ℕ) → s ≡ a + (b + 0) → a + l ≡ 1024 → b + n ≡ l → s + n ≡ 1024
-          by a b n l s x y z = omega arith
+          by : (a b n l l′ w w′ s : ℕ) → s ≡ a + (b + 0) → a + l ≡ w → b + n ≡ l + (1024 - w) → l′ + (1024 - w′) ≡ n → w′ ≡ w → s + l′ ≡ w′
+          by a b n l l′ w w′ s x y z u v = omega arith
 
-      pub there-more : (q : ℕ) → q < suc p → (n ≤ getD roots′ q 0) × (getD roots′ q 0 < 1024) × (getD counts′ q 0 ≤ 8)
+      pub there-more : (q : ℕ) → q < suc p → (left′ ≤ getD roots′ q 0) × (getD roots′ q 0 < 1024) × (getD counts′ q 0 ≤ 8)
       there-more q l = go (decLt q p)
         where
-          go : Dec (q < p) → (n ≤ getD roots′ q 0) × (getD roots′ q 0 < 1024) × (getD counts′ q 0 ≤ 8)
+          go : Dec (q < p) → (left′ ≤ getD roots′ q 0) × (getD roots′ q 0 < 1024) × (getD counts′ q 0 ≤ 8)
           go (yes b) =
               let t = g .there q b in
               rw (getD-set-other roots p q root 0 (λ z. absurd (omega (arith, z))), getD-set-other counts p q k 0 (λ z. absurd (omega (arith, z))))
@@ -189,16 +192,17 @@ module _ {ts : List ℕ} {v m : ℕ} {words roots counts : List ℕ} {p at left 
 
       -- it is not
       pub goes-on : (at′ : ℕ) → closed (λ x. ltb x (numberIn (valueAt vs 1))) (expressionIn (valueAt vs 0)) ≡ true → drop at′ ts ≡ rest → at′ ≤ length ts
-          → (ahead rest 0 ≡ textEnd → ⊥) → Going ts v m words′ roots′ counts′ (suc p) at′ n
+          → (ahead rest 0 ≡ textEnd → ⊥) → Going ts v m words′ roots′ counts′ (suc p) at′ left′
       goes-on at′ c d i f =
           record {
             same =
                 read
                 ∙ after-more further (before v m words roots counts p) (drop at ts) vs n rest c f
                 ∙ ap₂ (λ (b : Before) (us : List ℕ). proceduresBy (countsOf ts) (32 - p - 1) (suc p) b n us) with-one (sym d)
-                ∙ ap (λ (k : ℕ). proceduresBy (countsOf ts) k (suc p) (before v m words′ roots′ counts′ (suc p)) n (drop at′ ts)) (fewer p);
+                ∙ ap₂ (λ (k j : ℕ). proceduresBy (countsOf ts) k (suc p) (before v m words′ roots′ counts′ (suc p)) j (drop at′ ts)) (fewer p)
+                (sym (o .terms-are));
             ordered = o .ordered;
-            words-long = o .words-long;
+            few-words = omega (arith, o .words-long, g .few-words);
             roots-long = length-set roots p root ∙ g .roots-long;
             counts-long = length-set counts p k ∙ g .counts-long;
             there = there-more;
@@ -213,17 +217,20 @@ module _ {ts : List ℕ} {v m : ℕ} {words roots counts : List ℕ} {p at left 
 -- at the start none has been read
 pub starts : (ts : List ℕ) (v m : ℕ) (words roots counts : List ℕ) (at : ℕ)
     → readPlan ts ≡ proceduresBy (countsOf ts) 32 0 (record { version = v; mask = m; procedures = [] }) 1024 (drop at ts)
-    → Ordered words → length words ≡ 1024 → length roots ≡ 32 → length counts ≡ 32 → at ≤ length ts → Going ts v m words roots counts 0 at 1024
+    → Ordered words → length words ≤ 1024 → length roots ≡ 32 → length counts ≡ 32 → at ≤ length ts
+    → Going ts v m words roots counts 0 at (length words)
 unfolding heldFrom sizeOfAll
 starts ts v m words roots counts at e o a b c i =
     record {
-      same = e;
+      same =
+          let z : termsLeft words (length words) ≡ 1024 = omega arith in
+          e ∙ ap (λ (n : ℕ). proceduresBy (countsOf ts) 32 0 (record { version = v; mask = m; procedures = [] }) n (drop at ts)) (sym z);
       ordered = o;
-      words-long = a;
+      few-words = a;
       roots-long = b;
       counts-long = c;
       there = λ q h. absurd (omega arith);
-      sized = refl;
+      sized = omega arith;
       inside = i;
       few = omega arith;
     }
@@ -233,7 +240,7 @@ pub too-many : {ts : List ℕ} {v m : ℕ} {words roots counts : List ℕ} {p at
     → readPlan ts ≡ fault Fault.end (drop at ts)
 unfolding proceduresBy
 too-many {ts} {v} {m} {words} {roots} {counts} {p} {at} {left} g h =
-    g .same ∙ ap (λ (k : ℕ). proceduresBy (countsOf ts) k p (before v m words roots counts p) left (drop at ts)) (none p h)
+    g .same ∙ ap (λ (k : ℕ). proceduresBy (countsOf ts) k p (before v m words roots counts p) (termsLeft words left) (drop at ts)) (none p h)
   where
     none : (p : ℕ) → 32 ≤ p → 32 - p ≡ 0
     none p h = omega arith

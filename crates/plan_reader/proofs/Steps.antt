@@ -16,11 +16,11 @@ use Rattle.plan_parsing.specs.Parser.{ahead, parse}
 use Rattle.plan_parsing.specs.Plan.{fault, Fault, countsOf, procedureGoals, readPlan}
 use Rattle.plan_parser_goals.specs.inner.Encoded.{reasonOf}
 use Rattle.plan_parser.specs.inner.Reading as parser
-use Rattle.plan_parser.specs.inner.Reading.{Finished}
+use Rattle.plan_parser.specs.inner.Reading.{Finished, termsLeft}
 use Rattle.plan_parser.specs.declared.Parsed.{Parsed}
-use Rattle.plan_parser.specs.declared.Parsed.the-variants.{Read, Stopped}
+use Rattle.plan_parser.specs.declared.Parsed.the-variants.{Read, Stopped, Full}
 use Rattle.plan_reader.specs.declared.Next.{Next}
-use Rattle.plan_reader.specs.declared.Next.the-variants.{On, Last, Stop}
+use Rattle.plan_reader.specs.declared.Next.the-variants.{On, Last, Stop, Crowded}
 use Rattle.plan_reader.specs.inner.Reading.{faultOf, Faulty, PlanHeld, Going, GoesAs, Goes, Kept, KeptAs, Keeps}
 use Rattle.plan_reader.proofs.Headings.{here}
 use Rattle.plan_reader.proofs.OneMore.{OneMore, stops, opens, sized-more, there-more, lasts, goes-on}
@@ -30,19 +30,31 @@ resultOf counts ts p at left = parse counts (procedureGoals p) (number 0 ∷ [])
 
 -- reading has stopped
 pub stop-faulty : {ts counts : List ℕ} {v m : ℕ} {words roots params words′ : List ℕ} {p at left reason stop : ℕ} {r : Parsed}
-    → Going ts v m words roots params p at left → p < 32 → counts ≡ countsOf ts → parser.Ran ts words words′ left (resultOf counts ts p at left) r
+    → Going ts v m words roots params p at left → p < 32 → counts ≡ countsOf ts → parser.Ran ts words words′ left (resultOf counts ts p at
+    (termsLeft words left)) r
     → r ≡ Stopped reason stop
     → Faulty ts 0 reason stop
 unfolding faultOf
-stop-faulty {ts} {counts} {words′ = words′} {p} {at} {left} {reason} {stop} {r} g h e q f =
-    go (resultOf counts ts p at left) refl (subst (parser.Reads ts words′ left (resultOf counts ts p at left)) f (q .reads))
+stop-faulty {ts} {counts} {words = words} {words′ = words′} {p} {at} {left} {reason} {stop} {r} g h e q f =
+    go (resultOf counts ts p at (termsLeft words left)) refl
+    (subst (parser.Reads ts words′ left (resultOf counts ts p at (termsLeft words left))) f (q .reads))
   where
-    go : (R : definition.Parsed) → resultOf counts ts p at left ≡ R → parser.Reads ts words′ left R (Stopped reason stop)
+    go : (R : definition.Parsed) → resultOf counts ts p at (termsLeft words left) ≡ R → parser.Reads ts words′ left R (Stopped reason stop)
         → readPlan ts ≡ fault (Fault.reading (reasonOf reason)) (drop stop ts)
     go (definition.parsed vs n rest) z x = absurd x
     go (definition.stopped s rest) z x =
-        stops g h s rest (ap (λ (cs : List ℕ). resultOf cs ts p at left) (sym e) ∙ z) ∙ ap (λ (y : definition.Reason). fault (Fault.reading y) rest) (x .0)
+        stops g h s rest (ap (λ (cs : List ℕ). resultOf cs ts p at (termsLeft words left)) (sym e) ∙ z) ∙ ap (λ (y : definition.Reason). fault
+        (Fault.reading y) rest) (x .0)
         ∙ ap (fault (Fault.reading (reasonOf reason))) (sym (x .1))
+
+-- the arrays are too short
+pub read-full : {ts words words′ : List ℕ} {left : ℕ} {R : definition.Parsed} {r : Parsed} → parser.Ran ts words words′ left R r → r ≡ Full
+    → length words′ < 1024
+read-full {ts} {words} {words′} {left} {R} {r} q f = go R (subst (parser.Reads ts words′ left R) f (q .reads))
+  where
+    go : (S : definition.Parsed) → parser.Reads ts words′ left S Full → length words′ < 1024
+    go (definition.parsed vs n rest) x = x
+    go (definition.stopped s rest) x = x
 
 -- a procedure has been read
 pub record Got (ts words′ : List ℕ) (left : ℕ) (R : definition.Parsed) (root k left′ at′ : ℕ) : Type 0 where
@@ -63,24 +75,25 @@ read-finished {ts} {words} {words′} {left} {root} {k} {left′} {at′} {R} {r
 
 module _ {ts counts : List ℕ} {v m : ℕ} {words roots params words′ : List ℕ} {p at left root k left′ at′ : ℕ}
     (g : Going ts v m words roots params p at left) (h : p < 32) (e : counts ≡ countsOf ts) (w : parser.Kept left words words′)
-    (t : Got ts words′ left (resultOf counts ts p at left) root k left′ at′) where
-  one-more : OneMore words words′ left (t .values) (t .terms) root k
+    (t : Got ts words′ left (resultOf counts ts p at (termsLeft words left)) root k left′ at′) where
+  one-more : OneMore words words′ left (t .values) (t .terms) root k left′
   one-more =
       let f = t .finished in
       record {
         tree-is = f .tree-is;
         count-is = f .parameters-are;
-        root-there = omega (arith, f .root-there, f .left-is);
+        terms-are = f .left-is;
+        root-there = f .root-there;
         root-below = f .root-below;
         count-few = f .parameters-few;
-        fewer = omega (arith, f .fewer, f .left-is);
+        fewer = f .fewer;
         ordered = w .ordered;
         words-long = w .long;
         stay = w .terms-stay;
       }
 
-  result-is : resultOf (countsOf ts) ts p at left ≡ definition.parsed (t .values) (t .terms) (t .rest)
-  result-is = ap (λ (cs : List ℕ). resultOf cs ts p at left) (sym e) ∙ t .parsed-is
+  result-is : resultOf (countsOf ts) ts p at (termsLeft words left) ≡ definition.parsed (t .values) (t .terms) (t .rest)
+  result-is = ap (λ (cs : List ℕ). resultOf cs ts p at (termsLeft words left)) (sym e) ∙ t .parsed-is
 
   -- the slots, as the code sees them
   closed-is : closed (λ x. ltb x k) (treeIn words′ root) ≡ closed (λ x. ltb x (numberIn (valueAt (t .values) 1))) (expressionIn (valueAt (t .values) 0))
@@ -94,7 +107,7 @@ module _ {ts counts : List ℕ} {v m : ℕ} {words roots params words′ : List 
   last-held : {roots′ params′ : List ℕ} → Kept words′ roots params roots′ params′ p root k → ahead ts at′ ≡ textEnd
       → PlanHeld ts v m (suc p) left′ words′ roots′ params′
   last-held q f =
-      rw (q .roots-are, q .counts-are, t .finished .left-is)
+      rw (q .roots-are, q .counts-are)
       (record {
         says = lasts g h (t .values) (t .terms) (t .rest) result-is one-more (sym closed-is ∙ q .bound) (next-is ∙ f);
         ordered = w .ordered;
@@ -106,7 +119,7 @@ module _ {ts counts : List ℕ} {v m : ℕ} {words roots params words′ : List 
   more-going : {roots′ params′ : List ℕ} → Kept words′ roots params roots′ params′ p root k → (ahead ts at′ ≡ textEnd → ⊥)
       → Going ts v m words′ roots′ params′ (suc p) at′ left′
   more-going q f =
-      rw (q .roots-are, q .counts-are, t .finished .left-is)
+      rw (q .roots-are, q .counts-are)
       (goes-on g h (t .values) (t .terms) (t .rest) result-is one-more at′ (sym closed-is ∙ q .bound) (t .finished .rest-is) (t .finished .inside)
       (λ z. f (sym next-is ∙ z)))
 
@@ -116,6 +129,7 @@ module _ {ts counts : List ℕ} {v m : ℕ} {words roots params words′ : List 
   kept-as roots′ params′ (Stop kind reason stop) q = opens g h (t .values) (t .terms) (t .rest) result-is (sym closed-is ∙ q .0) ∙ sym (rw (q .1, q .2) refl)
   kept-as roots′ params′ (Last n) q = rw (q .2) (last-held (q .0) (q .1))
   kept-as roots′ params′ (On i n) q = rw (q .2, q .3) (more-going (q .0) (q .1))
+  kept-as roots′ params′ Crowded q = absurd q
 
   pub kept-goes : {roots′ params′ : List ℕ} {r : Next} → Keeps ts p at words′ roots params roots′ params′ root k left′ at′ r
       → Goes ts v m words′ roots′ params′ p r
@@ -132,3 +146,6 @@ module _ {ts : List ℕ} {v m : ℕ} {words roots params : List ℕ} {p : ℕ} {
 
   pub stop-fault : {kind reason at : ℕ} → r ≡ Stop kind reason at → Faulty ts kind reason at
   stop-fault e = subst (GoesAs ts v m words roots params p) e (g .so)
+
+  pub crowded-short : r ≡ Crowded → length words < 1024
+  crowded-short e = subst (GoesAs ts v m words roots params p) e (g .so)

@@ -8,6 +8,7 @@ ghost use lib.ListN.{length};
 ghost use Rattle.plan_packed.specs.inner.Steps.{Ordered};
 ghost use Rattle.text.specs.inner.Wrote.{Wrote};
 ghost use Rattle.plan_parsing.specs.Parser.{ahead};
+ghost use Rattle.plan_parser.specs.inner.Reading.{Sized};
 ghost use Rattle.plan_parsing.specs.Plan.{countsFrom, countsOf};
 ghost use Rattle.plan_reader.specs.inner.Reading.{countAt, isNext, Fielded, Marked, Headed, Going, Keeps, Goes, ReadAs};
 
@@ -125,7 +126,7 @@ fn header(tokens: &[u8]) -> Heading
     volatiles(tokens, version, 2)
 }
 
-// What comes of a plan's tokens: a plan, held in the arrays; or why it is none, and before which token.
+// What comes of a plan's tokens: a plan, held in the arrays; or why it is none, and before which token; or the arrays are too short, and not for every text.
 pub enum Outcome {
     Plan {
         version: usize,
@@ -138,6 +139,7 @@ pub enum Outcome {
         reason: usize,
         at: usize,
     },
+    Full,
 }
 
 // The kinds of faults: reading stops, for the parser's reason; no such version; a slot that nothing binds; more than 32 procedures.
@@ -149,7 +151,7 @@ pub const SLOTS: usize = 2;
 
 pub const END: usize = 3;
 
-// After a procedure: the next one, from a token and with so many terms left; or it was the last; or a fault.
+// After a procedure: the next one, from a token and with so many terms left; or it was the last; or a fault; or the arrays are too short.
 enum Next {
     On {
         at: usize,
@@ -161,6 +163,7 @@ enum Next {
         reason: usize,
         at: usize,
     },
+    Crowded,
 }
 
 // A procedure has been read: its slots, its place in the arrays, and what is behind it.
@@ -168,7 +171,7 @@ fn keep(
     tokens: &[u8],
     procedure: usize,
     at: usize,
-    words: &[usize; 1024],
+    words: &[usize],
     roots: &mut [usize; 32],
     parameters: &mut [usize; 32],
     root: usize,
@@ -205,17 +208,20 @@ fn step(
     procedure: usize,
     at: usize,
     left: usize,
-    words: &mut [usize; 1024],
+    words: &mut [usize],
     roots: &mut [usize; 32],
     parameters: &mut [usize; 32],
     version: usize,
     mask: usize,
+    goals: &mut [u16],
+    values: &mut [usize],
 ) -> Next
     requires { ⌜ (length (now tokens) ≤ 16384) × (now counts ≡ countsOf (now tokens)) × (procedure < 32) ⌝ }
+    requires { ⌜ Sized (now goals) (now values) (now words) ⌝ }
     requires { ⌜ Going (now tokens) version mask (now words) (now roots) (now parameters) procedure at left ⌝ }
     ensures { λ r. ⌜ Goes (now (tokens .entry)) version mask (now (words .exit)) (now (roots .exit)) (now (parameters .exit)) procedure r ⌝ }
 {
-    let parsed = plan_parser::procedure(tokens, at, procedure, counts, words, left);
+    let parsed = plan_parser::procedure(tokens, at, procedure, counts, words, left, goals, values);
     match parsed {
         Parsed::Stopped { reason, at: stop } => Next::Stop {
             kind: READING,
@@ -239,6 +245,7 @@ fn step(
             fewer,
             next,
         ),
+        Parsed::Full => Next::Crowded,
     }
 }
 
@@ -247,18 +254,21 @@ fn procedures(
     tokens: &[u8],
     counts: &[u8],
     heading: Heading,
-    words: &mut [usize; 1024],
+    words: &mut [usize],
     roots: &mut [usize; 32],
     parameters: &mut [usize; 32],
+    goals: &mut [u16],
+    values: &mut [usize],
 ) -> Outcome
     requires { ⌜ (length (now tokens) ≤ 16384) × (now counts ≡ countsOf (now tokens)) × (heading .version ≤ 1) ⌝ }
-    requires { ⌜ Going (now tokens) (heading .version) (heading .mask) (now words) (now roots) (now parameters) 0 (heading .at) 1024 ⌝ }
+    requires { ⌜ Sized (now goals) (now values) (now words) ⌝ }
+    requires { ⌜ Going (now tokens) (heading .version) (heading .mask) (now words) (now roots) (now parameters) 0 (heading .at) (length (now words)) ⌝ }
     ensures { λ r. ⌜ ReadAs (now (tokens .entry)) (now (words .exit)) (now (roots .exit)) (now (parameters .exit)) r ⌝ }
 {
     let version = heading.version;
     let mask = heading.mask;
     let mut at = heading.at;
-    let mut left = 1024;
+    let mut left = words.len();
     let mut procedure = 0;
     while procedure < 32 {
         let next = step(
@@ -272,6 +282,8 @@ fn procedures(
             parameters,
             version,
             mask,
+            goals,
+            values,
         );
         match next {
             Next::On {
@@ -300,6 +312,9 @@ fn procedures(
                     at: stop,
                 };
             }
+            Next::Crowded => {
+                return Outcome::Full;
+            }
         }
         procedure += 1;
     }
@@ -310,15 +325,18 @@ fn procedures(
     }
 }
 
-// A plan's tokens, into arrays; every list of tokens gets the definition's answer.
+// A plan's tokens, into arrays; every list of tokens gets the definition's answer. Room for the parameter counts, goals and values is lent.
 pub fn read_plan(
     tokens: &[u8],
-    words: &mut [usize; 1024],
+    counts: &mut [u8],
+    words: &mut [usize],
     roots: &mut [usize; 32],
     parameters: &mut [usize; 32],
+    goals: &mut [u16],
+    values: &mut [usize],
 ) -> Outcome
-    requires { ⌜ (0 < length (now tokens)) × (length (now tokens) ≤ 16384) × Ordered (now words) ⌝ }
-    requires { ⌜ (length (now words) ≡ 1024) × (length (now roots) ≡ 32) × (length (now parameters) ≡ 32) ⌝ }
+    requires { ⌜ (0 < length (now tokens)) × (length (now tokens) ≤ 16384) × (length (now tokens) < length (now counts)) × Ordered (now words) ⌝ }
+    requires { ⌜ Sized (now goals) (now values) (now words) × (length (now roots) ≡ 32) × (length (now parameters) ≡ 32) ⌝ }
     ensures { λ r. ⌜ ReadAs (now (tokens .entry)) (now (words .exit)) (now (roots .exit)) (now (parameters .exit)) r ⌝ }
 {
     let heading = header(tokens);
@@ -329,7 +347,15 @@ pub fn read_plan(
             at: heading.at,
         };
     }
-    let mut area = [0u8; 16385];
-    let count = put_counts(tokens, &mut area);
-    procedures(tokens, &area[0..count], heading, words, roots, parameters)
+    let count = put_counts(tokens, counts);
+    procedures(
+        tokens,
+        &counts[0..count],
+        heading,
+        words,
+        roots,
+        parameters,
+        goals,
+        values,
+    )
 }

@@ -16,7 +16,7 @@ use Rattle.format.proofs.Ranges.{by-range}
 use Rattle.plan_packed.proofs.Tags.{past, by-tag}
 use Rattle.plan_packed.proofs.Walk.{row-below}
 use Rattle.plan_notation.specs.Tokens.{opening, closing}
-use Rattle.plan_token_writer.specs.inner.Items.{token, child, asArguments, operandBy, binderOn, itemOf, itemRows, conditionRow, rowAs, rowNumber}
+use Rattle.plan_token_writer.specs.inner.Items.{token, child, asArguments, bitsBehind, operandBy, binderOn, itemOf, itemRows, conditionRow, rowAs, rowNumber}
 use Rattle.plan_token_writer.specs.inner.Items.{itemsFrom}
 use Rattle.plan_token_writer.specs.inner.Items.{rowItems}
 
@@ -72,19 +72,19 @@ module _ (ws : List ℕ) (o : Ordered ws) (t d : ℕ) where
   Row k r = tagOf w ≡ k → Later t (rowItems d w r)
 
   later-1 : Row 1 1
-  unfolding rowItems itemRows itemOf operandBy nodeOf inWord layout table nodes
+  unfolding rowItems itemRows itemOf operandBy bitsBehind nodeOf inWord layout table nodes
   later-1 e =
       grouped-later t (ltb (rowNumber 1 0) d) (itemsFrom w 1 2 1)
       (later-token t (32 + slotBits w), tt)
 
   later-3 : Row 3 3
-  unfolding rowItems itemRows itemOf operandBy nodeOf inWord layout table nodes
+  unfolding rowItems itemRows itemOf operandBy bitsBehind nodeOf inWord layout table nodes
   later-3 e =
       grouped-later t (ltb (rowNumber 3 0) d) (itemsFrom w 3 2 3)
       (later-child t 3 (firstOf w) (omega arith) (below _) (row-below ws o t 3 e), (later-token t 65, (later-token t (fieldBits w), tt)))
 
   later-4 : Row 4 4
-  unfolding rowItems itemRows itemOf operandBy nodeOf inWord layout table nodes
+  unfolding rowItems itemRows itemOf operandBy bitsBehind nodeOf inWord layout table nodes
   later-4 e =
       grouped-later t (ltb (rowNumber 4 0) d) (itemsFrom w 4 2 5) (
         later-child t 3 (firstOf w) (omega arith) (below _) (row-below ws o t 4 e .0),
@@ -98,7 +98,7 @@ module _ (ws : List ℕ) (o : Ordered ws) (t d : ℕ) where
       )
 
   later-5 : Row 5 5
-  unfolding rowItems itemRows itemOf operandBy nodeOf inWord layout table nodes
+  unfolding rowItems itemRows itemOf operandBy bitsBehind nodeOf inWord layout table nodes
   later-5 e =
       grouped-later t (ltb (rowNumber 5 0) d) (itemsFrom w 5 2 6) (
         later-token t 53,
@@ -115,7 +115,7 @@ module _ (ws : List ℕ) (o : Ordered ws) (t d : ℕ) where
       )
 
   later-6 : Row 6 6
-  unfolding rowItems itemRows itemOf operandBy nodeOf inWord layout table nodes
+  unfolding rowItems itemRows itemOf operandBy bitsBehind nodeOf inWord layout table nodes
   later-6 e =
       grouped-later t (ltb (rowNumber 6 0) d) (itemsFrom w 6 2 6) (
         later-token t 54,
@@ -132,7 +132,7 @@ module _ (ws : List ℕ) (o : Ordered ws) (t d : ℕ) where
       )
 
   later-7 : Row 7 7
-  unfolding rowItems itemRows itemOf operandBy nodeOf inWord layout table nodes
+  unfolding rowItems itemRows itemOf operandBy bitsBehind nodeOf inWord layout table nodes
   later-7 e =
       grouped-later t (ltb (rowNumber 7 0) d) (itemsFrom w 7 2 4) (
         later-token t 55,
@@ -143,7 +143,7 @@ module _ (ws : List ℕ) (o : Ordered ws) (t d : ℕ) where
       )
 
   later-8 : Row 8 8
-  unfolding rowItems itemRows itemOf operandBy nodeOf inWord layout table nodes
+  unfolding rowItems itemRows itemOf operandBy bitsBehind nodeOf inWord layout table nodes
   later-8 e =
       grouped-later t (ltb (rowNumber 8 0) d) (itemsFrom w 8 2 4) (
         later-token t 56,
@@ -154,19 +154,19 @@ module _ (ws : List ℕ) (o : Ordered ws) (t d : ℕ) where
       )
 
   later-9 : Row 9 9
-  unfolding rowItems itemRows itemOf operandBy nodeOf inWord layout table nodes
+  unfolding rowItems itemRows itemOf operandBy bitsBehind nodeOf inWord layout table nodes
   later-9 e =
       grouped-later t (ltb (rowNumber 9 0) d) (itemsFrom w 9 2 2)
       (later-token t 57, (later-child t 2 (firstOf w) (omega arith) (below _) (row-below ws o t 9 e), tt))
 
   later-10 : Row 10 10
-  unfolding rowItems itemRows itemOf operandBy nodeOf inWord layout table nodes
+  unfolding rowItems itemRows itemOf operandBy bitsBehind nodeOf inWord layout table nodes
   later-10 e =
       grouped-later t (ltb (rowNumber 10 0) d) (itemsFrom w 10 2 2)
       (later-token t 58, (later-child t 2 (firstOf w) (omega arith) (below _) (row-below ws o t 10 e), tt))
 
   later-11 : Row 11 11
-  unfolding rowItems itemRows itemOf operandBy nodeOf inWord layout table nodes
+  unfolding rowItems itemRows itemOf operandBy bitsBehind nodeOf inWord layout table nodes
   later-11 e =
       grouped-later t (ltb (rowNumber 11 0) d) (itemsFrom w 11 2 4) (
         later-token t 59,
@@ -177,31 +177,31 @@ module _ (ws : List ℕ) (o : Ordered ws) (t d : ℕ) where
       )
 
   later-18 : Row 18 18
-  unfolding rowItems itemRows itemOf operandBy nodeOf inWord layout table nodes
+  unfolding rowItems itemRows itemOf operandBy bitsBehind nodeOf inWord layout table nodes
   later-18 e =
       grouped-later t (ltb (rowNumber 18 0) d) (itemsFrom w 18 2 2)
       (later-token t 60, (later-child t 2 (firstOf w) (omega arith) (below _) (row-below ws o t 18 e), tt))
 
   later-19 : Row 19 19
-  unfolding rowItems itemRows itemOf operandBy nodeOf inWord layout table nodes
+  unfolding rowItems itemRows itemOf operandBy bitsBehind nodeOf inWord layout table nodes
   later-19 e =
       grouped-later t (ltb (rowNumber 19 0) d) (itemsFrom w 19 2 2)
       (later-token t 61, (later-child t 2 (firstOf w) (omega arith) (below _) (row-below ws o t 19 e), tt))
 
   later-20 : Row 20 20
-  unfolding rowItems itemRows itemOf operandBy nodeOf inWord layout table nodes
+  unfolding rowItems itemRows itemOf operandBy bitsBehind nodeOf inWord layout table nodes
   later-20 e =
       grouped-later t (ltb (rowNumber 20 0) d) (itemsFrom w 20 2 3)
       (later-token t 61, (later-token t 47, (later-child t 2 (firstOf w) (omega arith) (below _) (row-below ws o t 20 e), tt)))
 
   later-13-22 : Row 13 22
-  unfolding rowItems itemRows itemOf operandBy nodeOf inWord layout table nodes
+  unfolding rowItems itemRows itemOf operandBy bitsBehind nodeOf inWord layout table nodes
   later-13-22 e =
       grouped-later t (ltb (rowNumber 22 0) d) (itemsFrom w 22 2 2)
       (later-token t 50, (later-child t 5 (firstOf w) (omega arith) (below _) (row-below ws o t 13 e), tt))
 
   later-14-23 : Row 14 23
-  unfolding rowItems itemRows itemOf operandBy nodeOf inWord layout table nodes
+  unfolding rowItems itemRows itemOf operandBy bitsBehind nodeOf inWord layout table nodes
   later-14-23 e =
       grouped-later t (ltb (rowNumber 23 0) d) (itemsFrom w 23 2 3) (
         later-child t 5 (firstOf w) (omega arith) (below _) (row-below ws o t 14 e .0),
@@ -209,7 +209,7 @@ module _ (ws : List ℕ) (o : Ordered ws) (t d : ℕ) where
       )
 
   later-15-24 : Row 15 24
-  unfolding rowItems itemRows itemOf operandBy nodeOf inWord layout table nodes
+  unfolding rowItems itemRows itemOf operandBy bitsBehind nodeOf inWord layout table nodes
   later-15-24 e =
       grouped-later t (ltb (rowNumber 24 0) d) (itemsFrom w 24 2 3) (
         later-child t 2 (firstOf w) (omega arith) (below _) (row-below ws o t 15 e .0),
@@ -217,7 +217,7 @@ module _ (ws : List ℕ) (o : Ordered ws) (t d : ℕ) where
       )
 
   later-16-25 : Row 16 25
-  unfolding rowItems itemRows itemOf operandBy nodeOf inWord layout table nodes
+  unfolding rowItems itemRows itemOf operandBy bitsBehind nodeOf inWord layout table nodes
   later-16-25 e =
       grouped-later t (ltb (rowNumber 25 0) d) (itemsFrom w 25 2 2) (
         later-child t 0 (firstOf w) (omega arith) (below _) (row-below ws o t 16 e .0),
@@ -225,7 +225,7 @@ module _ (ws : List ℕ) (o : Ordered ws) (t d : ℕ) where
       )
 
   later-16-26 : Row 16 26
-  unfolding rowItems itemRows itemOf operandBy nodeOf inWord layout table nodes
+  unfolding rowItems itemRows itemOf operandBy bitsBehind nodeOf inWord layout table nodes
   later-16-26 e =
       grouped-later t (ltb (rowNumber 26 0) d) (itemsFrom w 26 2 3) (
         later-token t 64,

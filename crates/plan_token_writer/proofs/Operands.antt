@@ -1,29 +1,20 @@
 -- Laws of the operands of a row's items. Assumes nothing.
-use Prim.Native.Nat.{ℕ, zero, suc, _+_, _-_, _/_, _%_, _≤_, _<_}
+use Prim.Native.Nat.{ℕ, zero, suc, _+_, _-_, _*_, _/_, _%_, _^_, _≤_, _<_}
 use native.Mathlib.Omega.{arith}
 use mathlib.Core.Path.{_≡_, refl, sym, ap, subst, _∙_}
 use mathlib.Core.List.{List, [], _∷_, _++_}
 use lib.ListN.{length}
+use Rattle.format.specs.Refusal.{lowest}
 use Rattle.format.proofs.Ranges.{NoneOf, by-range}
 use Rattle.plan_notation.specs.Tokens.{opening, closing}
+use Rattle.plan_notation.proofs.Tested.{equated}
 use borrow.Author.Tests.{lt-ltb, le-ltb, ne-eqb}
-use Rattle.plan_token_writer.specs.inner.Items.{token, child, operandBy, itemOf, itemRows, rowNumber, itemsFrom, rowItems}
+use Rattle.plan_token_writer.specs.inner.Items.{token, child, bitsBehind, operandBy, itemOf, itemRows, rowNumber, itemsFrom, rowItems}
 
--- ten bits
-pub below : (x : ℕ) → x % 1024 < 1024
-below x = omega arith
-
--- there are seven operands
-pub no-operand : (k w : ℕ) → NoneOf k (6 ∷ 5 ∷ 4 ∷ 3 ∷ 2 ∷ 1 ∷ 0 ∷ []) → operandBy k w ≡ 0
-unfolding operandBy
-no-operand zero w n = absurd (n .0 .0 .0 .0 .0 .0 .1 refl)
-no-operand (suc zero) w n = absurd (n .0 .0 .0 .0 .0 .1 refl)
-no-operand (suc (suc zero)) w n = absurd (n .0 .0 .0 .0 .1 refl)
-no-operand (suc (suc (suc zero))) w n = absurd (n .0 .0 .0 .1 refl)
-no-operand (suc (suc (suc (suc zero)))) w n = absurd (n .0 .0 .1 refl)
-no-operand (suc (suc (suc (suc (suc zero))))) w n = absurd (n .0 .1 refl)
-no-operand (suc (suc (suc (suc (suc (suc zero)))))) w n = absurd (n .1 refl)
-no-operand (suc (suc (suc (suc (suc (suc (suc k))))))) w n = refl
+-- how many bits stand behind an operand, as the code has them in one number
+pub shift-is : (k : ℕ) → k < 8 → 5640542247784217 / 2 ^ (8 * k) % 64 ≡ bitsBehind k
+unfolding bitsBehind lowest
+shift-is = equated (λ (k : ℕ). 5640542247784217 / 2 ^ (8 * k) % 64) bitsBehind 8 refl
 
 -- an item that is a token, and one that is a child
 pub item-token : (w i : ℕ) → i < 70 → itemOf w i ≡ token i

@@ -23,7 +23,7 @@ use Rattle.plan_notation.specs.Tokens.{thenWord, elseWord, doWord, allWord, and
 use Rattle.plan_notation.specs.Tokens as tokens
 use Rattle.plan_notation.specs.Tokens.{callWord, forkWord, joinWord, synchWord, waitWord, notifyWord, opening, closing, comma, dot, equals, becomes, dash}
 use Rattle.plan_notation.specs.Shown.{loose, testing, prefix, tight, grouped, binderToken, signalTokens, shown, shownᶜ, shownᵃ, shownFurther}
-use Rattle.plan_token_writer.specs.inner.Items.{token, child, asCondition, asArguments, asFurther, shownAs, itemTokens, tokensIn, operandBy, binderOn}
+use Rattle.plan_token_writer.specs.inner.Items.{token, child, asCondition, asArguments, asFurther, shownAs, itemTokens, tokensIn, bitsBehind, operandBy, binderOn}
 use Rattle.plan_token_writer.specs.inner.Items.{itemOf}
 use Rattle.plan_token_writer.specs.inner.Items.{itemRows, conditionRow, rowAs, rowNumber, itemsFrom, rowItems}
 use Rattle.plan_token_writer.proofs.ItemTokens.{token-is, child-is, joined, Each, tokens-are, tokens-append, grouped-are}
@@ -60,7 +60,7 @@ module _ (ws : List ℕ) (o : Ordered ws) (t : ℕ) where
     Row k = tagOf w ≡ k → (k ≡ 2 → ⊥) → tokensIn ws (rowItems d w (cond (ltb k 21) k 0)) ≡ shown d (treeIn ws t)
 
     row-0 : Row 0
-    unfolding rowItems itemRows itemOf operandBy nodeOf inWord layout table nodes expressionOf shown shownAs binderOf
+    unfolding rowItems itemRows itemOf operandBy bitsBehind nodeOf inWord layout table nodes expressionOf shown shownAs binderOf
     row-0 e n =
         rw (le-ltb 3 d (omega arith))
         (tokens-are ws (itemsFrom w 0 2 1) ((nullWord ∷ []) ∷ [])
@@ -68,7 +68,7 @@ module _ (ws : List ℕ) (o : Ordered ws) (t : ℕ) where
         ∙ sym (ap (shown d) (expr-is ws o t 0 e))
 
     row-1 : Row 1
-    unfolding rowItems itemRows itemOf operandBy nodeOf inWord layout table nodes expressionOf shown shownAs binderOf
+    unfolding rowItems itemRows itemOf operandBy bitsBehind nodeOf inWord layout table nodes expressionOf shown shownAs binderOf
     row-1 e n =
         rw (le-ltb 3 d (omega arith))
         (tokens-are ws (itemsFrom w 1 2 1) (((32 + slotBits w) ∷ []) ∷ [])
@@ -76,7 +76,7 @@ module _ (ws : List ℕ) (o : Ordered ws) (t : ℕ) where
         ∙ sym (ap (shown d) (expr-is ws o t 1 e))
 
     row-3 : Row 3
-    unfolding rowItems itemRows itemOf operandBy nodeOf inWord layout table nodes expressionOf shown shownAs binderOf
+    unfolding rowItems itemRows itemOf operandBy bitsBehind nodeOf inWord layout table nodes expressionOf shown shownAs binderOf
     row-3 e n =
         rw (le-ltb 3 d (omega arith))
         (tokens-are ws (itemsFrom w 3 2 3) (shown tight (treeIn ws (firstOf w)) ∷ (dot ∷ []) ∷ (fieldBits w ∷ []) ∷ [])
@@ -84,7 +84,7 @@ module _ (ws : List ℕ) (o : Ordered ws) (t : ℕ) where
         ∙ sym (ap (shown d) (expr-is ws o t 3 e))
 
     row-4 : Row 4
-    unfolding rowItems itemRows itemOf operandBy nodeOf inWord layout table nodes expressionOf shown shownAs binderOf
+    unfolding rowItems itemRows itemOf operandBy bitsBehind nodeOf inWord layout table nodes expressionOf shown shownAs binderOf
     row-4 e n =
         grouped-are ws (ltb 0 d) (itemsFrom w 4 2 5) _
         (tokens-are ws (itemsFrom w 4 2 5) (shown tight (treeIn ws (firstOf w)) ∷ (dot ∷ []) ∷ (fieldBits w ∷ []) ∷ (becomes ∷ [])
@@ -98,7 +98,7 @@ module _ (ws : List ℕ) (o : Ordered ws) (t : ℕ) where
         ∙ sym (ap (shown d) (expr-is ws o t 4 e))
 
     row-5 : Row 5
-    unfolding rowItems itemRows itemOf operandBy nodeOf inWord layout table nodes expressionOf shown shownAs binderOf
+    unfolding rowItems itemRows itemOf operandBy bitsBehind nodeOf inWord layout table nodes expressionOf shown shownAs binderOf
     row-5 e n =
         grouped-are ws (ltb 0 d) (itemsFrom w 5 2 6) _
         (tokens-are ws (itemsFrom w 5 2 6) ((letWord ∷ []) ∷ (binderToken (binderOf (slotBits w)) ∷ []) ∷ (equals ∷ []) ∷ shown loose (treeIn ws (letFirst w))
@@ -118,7 +118,7 @@ module _ (ws : List ℕ) (o : Ordered ws) (t : ℕ) where
         ∙ sym (ap (shown d) (expr-is ws o t 5 e))
 
     row-6 : Row 6
-    unfolding rowItems itemRows itemOf operandBy nodeOf inWord layout table nodes expressionOf shown shownAs binderOf
+    unfolding rowItems itemRows itemOf operandBy bitsBehind nodeOf inWord layout table nodes expressionOf shown shownAs binderOf
     row-6 e n =
         grouped-are ws (ltb 0 d) (itemsFrom w 6 2 6) _
         (tokens-are ws (itemsFrom w 6 2 6) ((ifWord ∷ []) ∷ shownᶜ loose (conditionIn ws (firstOf w)) ∷ (thenWord ∷ []) ∷ shown loose (treeIn ws (secondOf w))
@@ -138,7 +138,7 @@ module _ (ws : List ℕ) (o : Ordered ws) (t : ℕ) where
         ∙ sym (ap (shown d) (expr-is ws o t 6 e))
 
     row-7 : Row 7
-    unfolding rowItems itemRows itemOf operandBy nodeOf inWord layout table nodes expressionOf shown shownAs binderOf
+    unfolding rowItems itemRows itemOf operandBy bitsBehind nodeOf inWord layout table nodes expressionOf shown shownAs binderOf
     row-7 e n =
         grouped-are ws (ltb 0 d) (itemsFrom w 7 2 4) _
         (tokens-are ws (itemsFrom w 7 2 4)
@@ -152,7 +152,7 @@ module _ (ws : List ℕ) (o : Ordered ws) (t : ℕ) where
         ∙ sym (ap (shown d) (expr-is ws o t 7 e))
 
     row-8 : Row 8
-    unfolding rowItems itemRows itemOf operandBy nodeOf inWord layout table nodes expressionOf shown shownAs binderOf
+    unfolding rowItems itemRows itemOf operandBy bitsBehind nodeOf inWord layout table nodes expressionOf shown shownAs binderOf
     row-8 e n =
         rw (le-ltb 3 d (omega arith))
         (tokens-are ws (itemsFrom w 8 2 4) ((callWord ∷ []) ∷ (procedureBits w ∷ []) ∷ (opening ∷ []) ∷ shownᵃ (listIn ws (listBits w)) ∷ []) (
@@ -162,7 +162,7 @@ module _ (ws : List ℕ) (o : Ordered ws) (t : ℕ) where
         ∙ sym (ap (shown d) (expr-is ws o t 8 e))
 
     row-9 : Row 9
-    unfolding rowItems itemRows itemOf operandBy nodeOf inWord layout table nodes expressionOf shown shownAs binderOf
+    unfolding rowItems itemRows itemOf operandBy bitsBehind nodeOf inWord layout table nodes expressionOf shown shownAs binderOf
     row-9 e n =
         grouped-are ws (ltb 2 d) (itemsFrom w 9 2 2) _
         (tokens-are ws (itemsFrom w 9 2 2) ((forkWord ∷ []) ∷ shown prefix (treeIn ws (firstOf w)) ∷ [])
@@ -170,7 +170,7 @@ module _ (ws : List ℕ) (o : Ordered ws) (t : ℕ) where
         ∙ sym (ap (shown d) (expr-is ws o t 9 e))
 
     row-10 : Row 10
-    unfolding rowItems itemRows itemOf operandBy nodeOf inWord layout table nodes expressionOf shown shownAs binderOf
+    unfolding rowItems itemRows itemOf operandBy bitsBehind nodeOf inWord layout table nodes expressionOf shown shownAs binderOf
     row-10 e n =
         grouped-are ws (ltb 2 d) (itemsFrom w 10 2 2) _
         (tokens-are ws (itemsFrom w 10 2 2) ((joinWord ∷ []) ∷ shown prefix (treeIn ws (firstOf w)) ∷ [])
@@ -178,7 +178,7 @@ module _ (ws : List ℕ) (o : Ordered ws) (t : ℕ) where
         ∙ sym (ap (shown d) (expr-is ws o t 10 e))
 
     row-11 : Row 11
-    unfolding rowItems itemRows itemOf operandBy nodeOf inWord layout table nodes expressionOf shown shownAs binderOf
+    unfolding rowItems itemRows itemOf operandBy bitsBehind nodeOf inWord layout table nodes expressionOf shown shownAs binderOf
     row-11 e n =
         grouped-are ws (ltb 0 d) (itemsFrom w 11 2 4) _
         (tokens-are ws (itemsFrom w 11 2 4) ((synchWord ∷ []) ∷ shown loose (treeIn ws (firstOf w)) ∷ (doWord ∷ []) ∷ shown loose (treeIn ws (secondOf w)) ∷
@@ -192,7 +192,7 @@ module _ (ws : List ℕ) (o : Ordered ws) (t : ℕ) where
         ∙ sym (ap (shown d) (expr-is ws o t 11 e))
 
     row-12 : Row 12
-    unfolding rowItems itemRows itemOf operandBy nodeOf inWord layout table nodes expressionOf shown shownAs binderOf
+    unfolding rowItems itemRows itemOf operandBy bitsBehind nodeOf inWord layout table nodes expressionOf shown shownAs binderOf
     row-12 e n =
         rw (le-ltb 3 d (omega arith))
         (tokens-are ws (itemsFrom w 12 2 1) ((nullWord ∷ []) ∷ [])
@@ -200,7 +200,7 @@ module _ (ws : List ℕ) (o : Ordered ws) (t : ℕ) where
         ∙ sym (ap (shown d) (expr-is ws o t 12 e))
 
     row-13 : Row 13
-    unfolding rowItems itemRows itemOf operandBy nodeOf inWord layout table nodes expressionOf shown shownAs binderOf
+    unfolding rowItems itemRows itemOf operandBy bitsBehind nodeOf inWord layout table nodes expressionOf shown shownAs binderOf
     row-13 e n =
         rw (le-ltb 3 d (omega arith))
         (tokens-are ws (itemsFrom w 13 2 1) ((nullWord ∷ []) ∷ [])
@@ -208,7 +208,7 @@ module _ (ws : List ℕ) (o : Ordered ws) (t : ℕ) where
         ∙ sym (ap (shown d) (expr-is ws o t 13 e))
 
     row-14 : Row 14
-    unfolding rowItems itemRows itemOf operandBy nodeOf inWord layout table nodes expressionOf shown shownAs binderOf
+    unfolding rowItems itemRows itemOf operandBy bitsBehind nodeOf inWord layout table nodes expressionOf shown shownAs binderOf
     row-14 e n =
         rw (le-ltb 3 d (omega arith))
         (tokens-are ws (itemsFrom w 14 2 1) ((nullWord ∷ []) ∷ [])
@@ -216,7 +216,7 @@ module _ (ws : List ℕ) (o : Ordered ws) (t : ℕ) where
         ∙ sym (ap (shown d) (expr-is ws o t 14 e))
 
     row-15 : Row 15
-    unfolding rowItems itemRows itemOf operandBy nodeOf inWord layout table nodes expressionOf shown shownAs binderOf
+    unfolding rowItems itemRows itemOf operandBy bitsBehind nodeOf inWord layout table nodes expressionOf shown shownAs binderOf
     row-15 e n =
         rw (le-ltb 3 d (omega arith))
         (tokens-are ws (itemsFrom w 15 2 1) ((nullWord ∷ []) ∷ [])
@@ -224,7 +224,7 @@ module _ (ws : List ℕ) (o : Ordered ws) (t : ℕ) where
         ∙ sym (ap (shown d) (expr-is ws o t 15 e))
 
     row-16 : Row 16
-    unfolding rowItems itemRows itemOf operandBy nodeOf inWord layout table nodes expressionOf shown shownAs binderOf
+    unfolding rowItems itemRows itemOf operandBy bitsBehind nodeOf inWord layout table nodes expressionOf shown shownAs binderOf
     row-16 e n =
         rw (le-ltb 3 d (omega arith))
         (tokens-are ws (itemsFrom w 16 2 1) ((nullWord ∷ []) ∷ [])
@@ -232,7 +232,7 @@ module _ (ws : List ℕ) (o : Ordered ws) (t : ℕ) where
         ∙ sym (ap (shown d) (expr-is ws o t 16 e))
 
     row-17 : Row 17
-    unfolding rowItems itemRows itemOf operandBy nodeOf inWord layout table nodes expressionOf shown shownAs binderOf
+    unfolding rowItems itemRows itemOf operandBy bitsBehind nodeOf inWord layout table nodes expressionOf shown shownAs binderOf
     row-17 e n =
         rw (le-ltb 3 d (omega arith))
         (tokens-are ws (itemsFrom w 17 2 1) ((nullWord ∷ []) ∷ [])
@@ -240,7 +240,7 @@ module _ (ws : List ℕ) (o : Ordered ws) (t : ℕ) where
         ∙ sym (ap (shown d) (expr-is ws o t 17 e))
 
     row-18 : Row 18
-    unfolding rowItems itemRows itemOf operandBy nodeOf inWord layout table nodes expressionOf shown shownAs binderOf
+    unfolding rowItems itemRows itemOf operandBy bitsBehind nodeOf inWord layout table nodes expressionOf shown shownAs binderOf
     row-18 e n =
         grouped-are ws (ltb 2 d) (itemsFrom w 18 2 2) _
         (tokens-are ws (itemsFrom w 18 2 2) ((waitWord ∷ []) ∷ shown prefix (treeIn ws (firstOf w)) ∷ [])
@@ -248,7 +248,7 @@ module _ (ws : List ℕ) (o : Ordered ws) (t : ℕ) where
         ∙ sym (ap (shown d) (expr-is ws o t 18 e))
 
     row-19 : Row 19
-    unfolding rowItems itemRows itemOf operandBy nodeOf inWord layout table nodes expressionOf shown shownAs binderOf
+    unfolding rowItems itemRows itemOf operandBy bitsBehind nodeOf inWord layout table nodes expressionOf shown shownAs binderOf
     row-19 e n =
         grouped-are ws (ltb 2 d) (itemsFrom w 19 2 2) _
         (tokens-are ws (itemsFrom w 19 2 2) ((notifyWord ∷ []) ∷ shown prefix (treeIn ws (firstOf w)) ∷ [])
@@ -256,7 +256,7 @@ module _ (ws : List ℕ) (o : Ordered ws) (t : ℕ) where
         ∙ sym (ap (shown d) (expr-is ws o t 19 e))
 
     row-20 : Row 20
-    unfolding rowItems itemRows itemOf operandBy nodeOf inWord layout table nodes expressionOf shown shownAs binderOf
+    unfolding rowItems itemRows itemOf operandBy bitsBehind nodeOf inWord layout table nodes expressionOf shown shownAs binderOf
     row-20 e n =
         grouped-are ws (ltb 2 d) (itemsFrom w 20 2 3) _
         (tokens-are ws (itemsFrom w 20 2 3) ((notifyWord ∷ []) ∷ (allWord ∷ []) ∷ shown prefix (treeIn ws (firstOf w)) ∷ [])
@@ -264,7 +264,7 @@ module _ (ws : List ℕ) (o : Ordered ws) (t : ℕ) where
         ∙ sym (ap (shown d) (expr-is ws o t 20 e))
 
     row-past : (j : ℕ) → Row (past 21 j)
-    unfolding rowItems itemRows itemOf operandBy nodeOf inWord layout table nodes expressionOf shown shownAs
+    unfolding rowItems itemRows itemOf operandBy bitsBehind nodeOf inWord layout table nodes expressionOf shown shownAs
     row-past j e n =
         rw (le-ltb (past 21 j) 21 (omega arith), le-ltb 3 d (omega arith))
         (tokens-are ws (itemsFrom w 0 2 1) ((nullWord ∷ []) ∷ [])
@@ -281,7 +281,7 @@ module _ (ws : List ℕ) (o : Ordered ws) (t : ℕ) where
     Rowᶜ k = tagOf w ≡ k → tokensIn ws (rowItems d w (cond (ltb 12 k && ltb k 16) (9 + k) 21)) ≡ shownᶜ d (conditionIn ws t)
 
     rowᶜ-13 : Rowᶜ 13
-    unfolding rowItems itemRows itemOf operandBy nodeOf inWord layout table nodes conditionOf argumentsOf shown shownAs
+    unfolding rowItems itemRows itemOf operandBy bitsBehind nodeOf inWord layout table nodes conditionOf argumentsOf shown shownAs
     rowᶜ-13 e =
         grouped-are ws (ltb 1 d) (itemsFrom w 22 2 2) _
         (tokens-are ws (itemsFrom w 22 2 2) ((notWord ∷ []) ∷ shownᶜ testing (conditionIn ws (firstOf w)) ∷ [])
@@ -289,7 +289,7 @@ module _ (ws : List ℕ) (o : Ordered ws) (t : ℕ) where
         ∙ sym (ap (shownᶜ d) (cond-is ws o t 13 e))
 
     rowᶜ-14 : Rowᶜ 14
-    unfolding rowItems itemRows itemOf operandBy nodeOf inWord layout table nodes conditionOf argumentsOf shown shownAs
+    unfolding rowItems itemRows itemOf operandBy bitsBehind nodeOf inWord layout table nodes conditionOf argumentsOf shown shownAs
     rowᶜ-14 e =
         grouped-are ws (ltb 0 d) (itemsFrom w 23 2 3) _
         (tokens-are ws (itemsFrom w 23 2 3) (shownᶜ testing (conditionIn ws (firstOf w)) ∷ (andWord ∷ []) ∷ shownᶜ loose (conditionIn ws (secondOf w)) ∷ [])
@@ -297,7 +297,7 @@ module _ (ws : List ℕ) (o : Ordered ws) (t : ℕ) where
         ∙ sym (ap (shownᶜ d) (cond-is ws o t 14 e))
 
     rowᶜ-15 : Rowᶜ 15
-    unfolding rowItems itemRows itemOf operandBy nodeOf inWord layout table nodes conditionOf argumentsOf shown shownAs
+    unfolding rowItems itemRows itemOf operandBy bitsBehind nodeOf inWord layout table nodes conditionOf argumentsOf shown shownAs
     rowᶜ-15 e =
         grouped-are ws (ltb 1 d) (itemsFrom w 24 2 3) _
         (tokens-are ws (itemsFrom w 24 2 3) (shown prefix (treeIn ws (firstOf w)) ∷ (equals ∷ []) ∷ shown prefix (treeIn ws (secondOf w)) ∷ [])
@@ -334,14 +334,14 @@ module _ (ws : List ℕ) (o : Ordered ws) (t : ℕ) where
 
   -- a call's arguments, and those behind one
   arguments-row : tagOf w ≡ 16 → tokensIn ws (rowItems 0 w 25) ≡ shownᵃ (listIn ws t)
-  unfolding rowItems itemRows itemOf operandBy nodeOf inWord layout table nodes conditionOf argumentsOf shown shownAs
+  unfolding rowItems itemRows itemOf operandBy bitsBehind nodeOf inWord layout table nodes conditionOf argumentsOf shown shownAs
   arguments-row e =
       tokens-are ws (itemsFrom w 25 2 2) (shown loose (treeIn ws (firstOf w)) ∷ shownFurther (listIn ws (secondOf w)) ∷ [])
       (child-is ws 0 (firstOf w) (omega arith) (small₁₀ _), (child-is ws 9 (secondOf w) (omega arith) (small₁₀ _), tt))
       ∙ sym (ap shownᵃ (list-is ws o t 16 e))
 
   further-row : tagOf w ≡ 16 → tokensIn ws (rowItems 1 w 26) ≡ shownFurther (listIn ws t)
-  unfolding rowItems itemRows itemOf operandBy nodeOf inWord layout table nodes conditionOf argumentsOf shown shownAs
+  unfolding rowItems itemRows itemOf operandBy bitsBehind nodeOf inWord layout table nodes conditionOf argumentsOf shown shownAs
   further-row e =
       tokens-are ws (itemsFrom w 26 2 3) ((comma ∷ []) ∷ shown loose (treeIn ws (firstOf w)) ∷ shownFurther (listIn ws (secondOf w)) ∷ [])
       (token-is ws comma (omega arith), (child-is ws 0 (firstOf w) (omega arith) (small₁₀ _), (child-is ws 9 (secondOf w) (omega arith) (small₁₀ _), tt)))

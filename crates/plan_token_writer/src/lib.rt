@@ -29,20 +29,16 @@ const FIELD: usize = 72;
 
 const PROCEDURE: usize = 73;
 
-// The operand of a term that is a child, by its number in a row's item.
+// How many bits of a term stand behind each operand that is a child, by its number in a row's item, a byte to each: 25, 15, 5, 21, 11, 10 and 20.
+const SHIFTS: usize = 5640542247784217;
+
+// The operand of a term that is a child, without a branch: which one it is follows no pattern.
 fn operand(number: usize, word: usize) -> usize
+    requires { ⌜ number < 8 ⌝ }
     ensures { λ r. ⌜ (r ≡ operandBy number word) × (r < 1024) ⌝ }
 {
-    match number {
-        0 => plan_operands::first(word),
-        1 => plan_operands::second(word),
-        2 => plan_operands::third(word),
-        3 => plan_operands::let_first(word),
-        4 => plan_operands::let_second(word),
-        5 => plan_operands::write_second(word),
-        6 => plan_operands::list_of(word),
-        _ => 0,
-    }
+    let shift = (SHIFTS >> (8 * number)) % 64;
+    (word >> shift) % 1024
 }
 
 // The slot of a let, or none.

@@ -63,7 +63,7 @@ fn pair_second(word: usize) -> usize
 
 // An expression but for its last child.
 fn begin_expression(
-    words: &[usize; 1024],
+    words: &[usize],
     term: usize,
     area: &mut [u8],
     base: usize,
@@ -73,7 +73,7 @@ fn begin_expression(
     requires { ⌜ Room (expressionsIn (now words) term) base number (now area) ⌝ }
     ensures { λ r. ⌜ Going (expressionsIn (now (words .entry))) base term number (now (area .entry)) (now (area .exit)) r ⌝ }
 {
-    let word = words[term];
+    let word = plan_words::word(words, term);
     let tag = plan_operands::tag(word);
     let place = base + 5 * number;
     let next = number + 1;
@@ -82,25 +82,25 @@ fn begin_expression(
         return Left::At(plan_operands::first(word), next);
     }
     if has_two(tag) {
-        let second = write_expression(words, pair_first(word), area, base, next);
+        let second = write_expression(&*words, pair_first(word), area, base, next);
         plan_packing::put(area, place, plan_packing::two(word, next, second));
         return Left::At(pair_second(word), second);
     }
     match tag {
         tags::IF => {
-            let second = write_condition(words, plan_operands::first(word), area, base, next);
-            let third = write_expression(words, plan_operands::second(word), area, base, second);
+            let second = write_condition(&*words, plan_operands::first(word), area, base, next);
+            let third = write_expression(&*words, plan_operands::second(word), area, base, second);
             plan_packing::put(area, place, plan_packing::three(next, second, third));
             Left::At(plan_operands::third(word), third)
         }
         tags::WHILE => {
-            let body = write_condition(words, plan_operands::first(word), area, base, next);
+            let body = write_condition(&*words, plan_operands::first(word), area, base, next);
             plan_packing::put(area, place, plan_packing::two(word, next, body));
             Left::At(plan_operands::second(word), body)
         }
         tags::CALL => {
             plan_packing::put(area, place, plan_packing::call(word, next));
-            let end = write_list(words, plan_operands::list_of(word), area, base, next);
+            let end = write_list(&*words, plan_operands::list_of(word), area, base, next);
             Left::Done(end)
         }
         _ => {
@@ -112,7 +112,7 @@ fn begin_expression(
 
 // A condition but for its last child, if that is a condition.
 fn begin_condition(
-    words: &[usize; 1024],
+    words: &[usize],
     term: usize,
     area: &mut [u8],
     base: usize,
@@ -122,7 +122,7 @@ fn begin_condition(
     requires { ⌜ Room (conditionsIn (now words) term) base number (now area) ⌝ }
     ensures { λ r. ⌜ Going (conditionsIn (now (words .entry))) base term number (now (area .entry)) (now (area .exit)) r ⌝ }
 {
-    let word = words[term];
+    let word = plan_words::word(words, term);
     let place = base + 5 * number;
     let next = number + 1;
     let first = plan_operands::first(word);
@@ -132,14 +132,14 @@ fn begin_condition(
             Left::At(first, next)
         }
         tags::AND => {
-            let second = write_condition(words, first, area, base, next);
+            let second = write_condition(&*words, first, area, base, next);
             plan_packing::put(area, place, plan_packing::two(word, next, second));
             Left::At(plan_operands::second(word), second)
         }
         tags::EQUAL => {
-            let second = write_expression(words, first, area, base, next);
+            let second = write_expression(&*words, first, area, base, next);
             plan_packing::put(area, place, plan_packing::two(word, next, second));
-            let end = write_expression(words, plan_operands::second(word), area, base, second);
+            let end = write_expression(&*words, plan_operands::second(word), area, base, second);
             Left::Done(end)
         }
         _ => {
@@ -150,32 +150,26 @@ fn begin_condition(
 }
 
 // An argument of a call, or the end of its list.
-fn begin_list(
-    words: &[usize; 1024],
-    term: usize,
-    area: &mut [u8],
-    base: usize,
-    number: usize,
-) -> Left
+fn begin_list(words: &[usize], term: usize, area: &mut [u8], base: usize, number: usize) -> Left
     requires { ⌜ Ordered (now words) × (term < 1024) ⌝ }
     requires { ⌜ Room (listsIn (now words) term) base number (now area) ⌝ }
     ensures { λ r. ⌜ Going (listsIn (now (words .entry))) base term number (now (area .entry)) (now (area .exit)) r ⌝ }
 {
-    let word = words[term];
+    let word = plan_words::word(words, term);
     let place = base + 5 * number;
     let next = number + 1;
     if plan_operands::tag(word) != tags::LIST {
         plan_packing::put(area, place, tags::LIST_END * plan_operands::TAG);
         return Left::Done(next);
     }
-    let rest = write_expression(words, plan_operands::first(word), area, base, next);
+    let rest = write_expression(&*words, plan_operands::first(word), area, base, next);
     plan_packing::put(area, place, plan_packing::two(word, next, rest));
     Left::At(plan_operands::second(word), rest)
 }
 
 // An expression whose root has this number, in the area whose terms begin at `base`; the number after its last term's.
 pub fn write_expression(
-    words: &[usize; 1024],
+    words: &[usize],
     from: usize,
     area: &mut [u8],
     base: usize,
@@ -201,7 +195,7 @@ pub fn write_expression(
 
 // A condition, as an expression.
 fn write_condition(
-    words: &[usize; 1024],
+    words: &[usize],
     from: usize,
     area: &mut [u8],
     base: usize,
@@ -226,13 +220,7 @@ fn write_condition(
 }
 
 // The arguments of a call, as an expression.
-fn write_list(
-    words: &[usize; 1024],
-    from: usize,
-    area: &mut [u8],
-    base: usize,
-    first: usize,
-) -> usize
+fn write_list(words: &[usize], from: usize, area: &mut [u8], base: usize, first: usize) -> usize
     requires { ⌜ Ordered (now words) × (from < 1024) ⌝ }
     requires { ⌜ Room (listsIn (now words) from) base first (now area) ⌝ }
     ensures { λ r. ⌜ Wrote (listsIn (now (words .entry)) from) base first (now (area .entry)) (now (area .exit)) r ⌝ }

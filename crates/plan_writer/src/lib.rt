@@ -47,7 +47,7 @@ pub fn write(
     mask: usize,
     procedures: usize,
     terms: usize,
-    words: &[usize; 1024],
+    words: &[usize],
     roots: &[usize; 32],
     counts: &[usize; 32],
     area: &mut [u8],

@@ -8,3 +8,4 @@ pub mod Standing
 pub mod Rounds
 pub mod Halts
 pub mod Begins
+pub mod FirstLists

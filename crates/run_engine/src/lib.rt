@@ -128,6 +128,7 @@ pub fn explore(
     let mut cells = [kept::zeros(); 1024];
     let mut objects = [first_object(); 33];
     let mut places = [0u16; 8];
+    let mut lists = [0usize; 32];
     let mut stack = [0usize; 891];
     let mut passed = [false; 8];
     let mut tally = run_tally::first();
@@ -189,7 +190,16 @@ pub fn explore(
                 break;
             };
             let go = run_pick::go_of(begun);
-            let refocusings = run_pick::refocus(words, roots, &mut stack, counts, head, thread, go);
+            let refocusings = run_pick::refocus(
+                words,
+                roots,
+                &mut lists,
+                &mut stack,
+                counts,
+                head,
+                thread,
+                go,
+            );
             let last = refocusings.last;
             if run_refocusing::full(last) {
                 stop = Stop::NoRoom(NoRoom::Depth);

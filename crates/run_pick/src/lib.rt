@@ -6,6 +6,7 @@ ghost use Prim.Native.Nat.{_<_, _+_, _%_};
 ghost use mathlib.Core.Bool.{false};
 ghost use Rattle.run_act.specs.inner.Act.{goesOnBy, actPure};
 ghost use Rattle.run_state.specs.inner.Acted.{noEntry};
+ghost use Rattle.run_lists.specs.inner.Lists.{Right};
 ghost use Rattle.run_pick.specs.inner.Pick.{stoppedFor, lackEntry, refocusedHead, noHead, moverWay, forkedWay, begunBy, beginOf, goOf, refocusingsFrom};
 ghost use Rattle.run_pick.specs.inner.Pick.{actMet};
 ghost use Rattle.run_outcome.specs.declared.Stop.the-variants as stop;
@@ -238,19 +239,21 @@ pub fn go_of(begun: Begun) -> Refocusing
 pub fn refocus(
     words: &[usize; 1024],
     roots: &[usize; 32],
+    lists: &mut [usize; 32],
     stack: &mut [usize; 891],
     counts: Counts,
     head: Head,
     thread: usize,
     from: Refocusing,
 ) -> Refocusings
-    requires { ⌜ thread < 8 ⌝ }
+    requires { ⌜ (thread < 8) × Right (now words) (now lists) ⌝ }
     ensures { λ r. ⌜ (record { stack = now (stack .exit); refocusings = r }) ≡ refocusingsFrom (now (words .entry)) (now (roots .entry)) counts head thread from
         (now (stack .entry)) ⌝ }
+    ensures { λ r. ⌜ Right (now (words .entry)) (now (lists .exit)) ⌝ }
 {
     let ready = head.ready;
     let forks = ready.redex == redex::FORK;
     let mover = mover_way(thread, head, from);
     let forked = forked_way(counts, head);
-    run_refocusing::refocus(words, roots, stack, mover, forked, forks)
+    run_refocusing::refocus(words, roots, lists, stack, mover, forked, forks)
 }

@@ -3,6 +3,7 @@
 ghost use mathlib.Core.Path.{_≡_};
 ghost use mathlib.Core.Bool.{true, false};
 ghost use Prim.Native.Nat.{_<_, _≤_};
+ghost use Rattle.run_lists.specs.inner.Lists.{Right};
 ghost use Rattle.run_refocusing.specs.inner.Refocusing.{liveOf, fullOf, refocusedOf, noRefocusing, refocusingsOf, storeAt, refocusFrom, afterOf};
 use run_frames::frame;
 use run_frames::frame::Frame;
@@ -106,15 +107,17 @@ fn store(stack: &mut [usize; 891], place: usize, frame: Frame)
 pub fn refocus(
     words: &[usize; 1024],
     roots: &[usize; 32],
+    lists: &mut [usize; 32],
     stack: &mut [usize; 891],
     first: Way,
     second: Way,
     forks: bool,
 ) -> Refocusings
-    requires { ⌜ (first .base ≤ 264) × (first .depth ≤ 32) × (second .base ≤ 264) × (second .depth ≤ 32) ⌝ }
+    requires { ⌜ (first .base ≤ 264) × (first .depth ≤ 32) × (second .base ≤ 264) × (second .depth ≤ 32) × Right (now words) (now lists) ⌝ }
     ensures { λ r. ⌜ (record { stack = now (stack .exit); refocusings = r }) ≡ afterOf (now (words .entry)) (now (roots .entry)) forks second
         noRefocusing (refocusFrom (now (words .entry)) (now (roots .entry)) first (now (stack .entry))) ⌝ }
     ensures { λ r. ⌜ (r .before .depth ≤ 32) × (r .last .depth ≤ 32) ⌝ }
+    ensures { λ r. ⌜ Right (now (words .entry)) (now (lists .exit)) ⌝ }
 {
     let mut base = first.base;
     let mut go = first.go;
@@ -139,7 +142,7 @@ pub fn refocus(
             left = 2100;
             continue;
         }
-        let stepped = run_refocusing_step::step(words, roots, stack, base, go, depth, left);
+        let stepped = run_refocusing_step::step(words, roots, lists, stack, base, go, depth, left);
         let turn = stepped.turn;
         let pushed = turn.frame;
         if turn.at < turn.depth {

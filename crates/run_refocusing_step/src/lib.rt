@@ -1,8 +1,9 @@
 // One step of refocusing, the way down (an operand, a call's list, a term) or up with a value; before it, one for each value that comes next in a call's list.
 ghost use mathlib.Core.Path.{_≡_};
 ghost use Prim.Native.Nat.{_<_, _≤_, _-_};
-ghost use Rattle.run_refocusing_step.specs.inner.Ahead.{nextOf, gatheredOf, aheadOf, intoOf, steppedOf};
-ghost use Rattle.run_refocusing_step.specs.inner.Down.{stayOf, pushOf, wantOf, wantConditionOf, rootAt, listOf, signalOf, simpleOf, openExpressionOf};
+ghost use Rattle.run_lists.specs.inner.Lists.{Right};
+ghost use Rattle.run_refocusing_step.specs.inner.Ahead.{nextOf, gatheredOf, calledOf, goingOf, Fits, steppedOf};
+ghost use Rattle.run_refocusing_step.specs.inner.Down.{stayOf, pushOf, wantOf, wantConditionOf, rootAt, callOf, listOf, signalOf, simpleOf, openExpressionOf};
 ghost use Rattle.run_refocusing_step.specs.inner.Down.{openConditionOf, openedOf, wantedOf, backOf, backConditionOf, frameAt, topOf};
 use plan_operands::tags;
 use run_frames::frame;
@@ -27,6 +28,12 @@ pub struct Turn {
 pub struct Gathered {
     pub left: usize,
     pub frame: Frame,
+}
+
+// Where refocusing stands once it is through a call's list, and how many steps are left.
+pub struct Through {
+    pub left: usize,
+    pub go: Refocusing,
 }
 
 // A step, and how many are left with it.
@@ -96,6 +103,14 @@ fn root(roots: &[usize; 32], procedure: usize) -> usize
     roots[procedure % 32]
 }
 
+// The call of a frame's procedure with these arguments.
+fn call(roots: &[usize; 32], frame: Frame, arguments: usize) -> Refocusing
+    ensures { λ r. ⌜ r ≡ callOf (now (roots .entry)) frame arguments ⌝ }
+{
+    let term = root(roots, frame.member);
+    refocusing::at(refocusing::ready_of(redex::RUN, term, 0, 0, arguments))
+}
+
 // The rest of a call's list: the next operand, or the call.
 fn list(words: &[usize; 1024], roots: &[usize; 32], frame: Frame) -> Refocusing
     ensures { λ r. ⌜ r ≡ listOf (now (words .entry)) (now (roots .entry)) frame ⌝ }
@@ -107,8 +122,7 @@ fn list(words: &[usize; 1024], roots: &[usize; 32], frame: Frame) -> Refocusing
             plan_operands::first(word),
         );
     }
-    let term = root(roots, frame.member);
-    refocusing::at(refocusing::ready_of(redex::RUN, term, 0, 0, frame.arguments))
+    call(roots, frame, frame.arguments)
 }
 
 // The value that comes next in a call's list whose word this is; 32 where the list is over or its next operand needs a move.
@@ -143,6 +157,62 @@ fn gather(words: &[usize; 1024], frame: Frame, left: usize) -> Gathered
     Gathered {
         frame: frame,
         left: left,
+    }
+}
+
+// The same, and then a step.
+fn one_by_one(words: &[usize; 1024], roots: &[usize; 32], frame: Frame, left: usize) -> Through
+    requires { ⌜ 0 < left ⌝ }
+    ensures { λ r. ⌜ r ≡ calledOf (now (words .entry)) (now (roots .entry)) left frame ⌝ }
+{
+    let gathered = gather(words, frame, left);
+    let frame = gathered.frame;
+    Through {
+        left: gathered.left,
+        go: list(words, roots, frame),
+    }
+}
+
+// Whether so many values have room in a call's frame, above those that are there, and a step is left after one to each.
+fn fits(frame: Frame, count: usize, left: usize) -> bool
+    ensures { λ r. ⌜ Fits frame count left r ⌝ }
+{
+    if count < left {
+        if count <= 8 {
+            if frame.count <= 8 - count {
+                return frame.arguments >> (frame.count * 5) == 0;
+            }
+        }
+    }
+    false
+}
+
+// Through the rest of a call's list: all of it at once where it is values alone, which its number tells; else to an operand that needs a move.
+fn called(
+    words: &[usize; 1024],
+    roots: &[usize; 32],
+    lists: &mut [usize; 32],
+    frame: Frame,
+    left: usize,
+) -> Through
+    requires { ⌜ (0 < left) × Right (now words) (now lists) ⌝ }
+    ensures { λ r. ⌜ (r ≡ calledOf (now (words .entry)) (now (roots .entry)) left frame) × Right (now (words .entry)) (now (lists .exit)) ⌝ }
+{
+    if plan_operands::tag(words::word(words, frame.first)) == tags::LIST {
+        let told = run_lists::told(words, lists, frame.first % 1024);
+        let count = run_lists::count_of(told);
+        if fits(frame, count, left) {
+            let more = run_lists::values(frame.environment, told) << (frame.count * 5);
+            return Through {
+                left: left - count,
+                go: call(roots, frame, frame.arguments + more),
+            };
+        }
+        return one_by_one(words, roots, frame, left);
+    }
+    Through {
+        left: left,
+        go: call(roots, frame, frame.arguments),
     }
 }
 
@@ -283,30 +353,22 @@ fn opened(words: &[usize; 1024], go: Refocusing) -> Refocusing
     }
 }
 
-// The frame where refocusing stands; of a call's list, with the values that come next taken into it.
-fn ahead(words: &[usize; 1024], go: Refocusing, left: usize) -> Gathered
-    requires { ⌜ 0 < left ⌝ }
-    ensures { λ r. ⌜ r ≡ aheadOf left (now (words .entry)) go ⌝ }
+// A call's list is gone through.
+fn listed(
+    words: &[usize; 1024],
+    roots: &[usize; 32],
+    lists: &mut [usize; 32],
+    go: Refocusing,
+    left: usize,
+) -> Through
+    requires { ⌜ (0 < left) × Right (now words) (now lists) ⌝ }
+    ensures { λ r. ⌜ (r ≡ goingOf (now (words .entry)) (now (roots .entry)) left go) × Right (now (words .entry)) (now (lists .exit)) ⌝ }
 {
     let frame = go.frame;
     let stage = go.stage;
     match stage {
-        Stage::List => gather(words, frame, left),
-        _ => Gathered {
-            left: left,
-            frame: frame,
-        },
-    }
-}
-
-// A call's list is gone into, with this frame.
-fn listed(words: &[usize; 1024], roots: &[usize; 32], go: Refocusing, frame: Frame) -> Refocusing
-    ensures { λ r. ⌜ r ≡ intoOf (now (words .entry)) (now (roots .entry)) go frame ⌝ }
-{
-    let stage = go.stage;
-    match stage {
-        Stage::List => list(words, roots, frame),
-        _ => go,
+        Stage::List => called(words, roots, lists, frame, left),
+        _ => Through { left: left, go: go },
     }
 }
 
@@ -374,14 +436,16 @@ fn top(base: usize, depth: usize) -> usize
 pub fn step(
     words: &[usize; 1024],
     roots: &[usize; 32],
+    lists: &mut [usize; 32],
     stack: &[usize; 891],
     base: usize,
     go: Refocusing,
     depth: usize,
     left: usize,
 ) -> Stepped
-    requires { ⌜ (base ≤ 264) × (depth ≤ 32) × (0 < left) ⌝ }
+    requires { ⌜ (base ≤ 264) × (depth ≤ 32) × (0 < left) × Right (now words) (now lists) ⌝ }
     ensures { λ r. ⌜ r ≡ steppedOf (now (words .entry)) (now (roots .entry)) left go depth (frameAt (now (stack .entry)) (topOf base depth)) ⌝ }
+    ensures { λ r. ⌜ Right (now (words .entry)) (now (lists .exit)) ⌝ }
 {
     let stage = go.stage;
     match stage {
@@ -401,11 +465,10 @@ pub fn step(
         }
         _ => {
             let opened = opened(words, go);
-            let ahead = ahead(words, opened, left);
-            let frame = ahead.frame;
-            let turn = wanted(words, listed(words, roots, opened, frame), depth);
+            let listed = listed(words, roots, lists, opened, left);
+            let turn = wanted(words, listed.go, depth);
             Stepped {
-                left: ahead.left,
+                left: listed.left,
                 turn: turn,
             }
         }

@@ -22,7 +22,7 @@ use Rattle.plan_notation.specs.Shown.{shownPlan}
 use Rattle.plan_notation.specs.Layout.{laidOut}
 use Rattle.plan_notation.specs.Text.{textOfProgram, shownText}
 use Rattle.show.specs.Show.{shortForText, showChecks, showRefusal, showAnswer, shownBy, showArea}
-use Rattle.show.specs.inner.Begun.{TooShort, LaidOut, TextWritten}
+use Rattle.show.specs.inner.Begun.{TooShort, Overwritten, TextWritten}
 
 module _ (plan area : List ℕ) where
   abbrev pub textChecks : List Check

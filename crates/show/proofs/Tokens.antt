@@ -1,5 +1,5 @@
 -- The tokens of an accepted plan, as the code has them. Assumes nothing.
-use Prim.Native.Nat.{ℕ, _-_, _≤_}
+use Prim.Native.Nat.{ℕ, _-_, _≤_, _<_}
 use native.Mathlib.Omega.{arith}
 use mathlib.Core.Path.{_≡_, sym, ap, subst, _∙_}
 use mathlib.Core.List.{List}
@@ -18,9 +18,10 @@ use Rattle.text.specs.inner.Wrote.{Wrote}
 use Rattle.plan_notation.specs.inner.Known.{Known}
 use Rattle.plan_notation.specs.Shown.{shownPlan}
 use Rattle.plan_notation.proofs.ShownCodes.{plan-fit, known}
+use Rattle.plan_layout.specs.inner.Marks.{LaidWithin}
 use Rattle.plan_tokens.specs.inner.Begun.{Given}
 use Rattle.answers.specs.declared.Answered.{Answered}
-use Rattle.show.specs.inner.Begun.{TextWritten}
+use Rattle.show.specs.inner.Begun.{BytesWritten, TextWritten}
 
 pub given : {plan words : List ℕ} {r : Checked} → answered r ≡ refusal plan → (r ≡ Passed → Loaded plan (terms plan) words) → r ≡ Passed → Given plan words
 given {plan} {words} {r} e l q = record { passes = passed-none (refusal plan) r e q; loaded = l q }
@@ -47,3 +48,12 @@ known-tokens {plan} g w =
     let f = plan-fit (programOf plan) (right-program plan (g .passes)) in
     let e = first-tokens plan w in
     (subst Known (sym e) (known f), omega (arith, ap length e, f .few))
+
+-- what a room begins with is the text of the tokens that were laid out in it
+pub room-text : {ts room area area′ : List ℕ} {n : ℕ} {r : Answered} → LaidWithin ts room n → 0 < n → BytesWritten (take (n - 0) room) area area′ r
+    → TextWritten ts area area′ r
+room-text {ts} {room} {area} {area′} {n} {r} l h w =
+    subst (λ (bytes : List ℕ). BytesWritten bytes area area′ r) (ap (λ (m : ℕ). take m room) (same n) ∙ l .laid h) w
+  where
+    same : (n : ℕ) → n - 0 ≡ n
+    same n = omega arith

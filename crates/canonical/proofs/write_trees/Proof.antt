@@ -60,31 +60,31 @@ root-requires c κs =
 
 write-expression-requires : tie.Need-write-expression-requires Inv-loop μ-loop
 write-expression-requires c κs =
-    let s = c .before .before .before .before .before .before .before .before .before .before .before in
-    let l = c .before .before .before .before .before .before .before .before .loop in
-    let h = below (c .before .before .before .before .before .before .before .loop-test .taken) (s .pre .1) in
-    rw (c .before .root .ensures, s .pre .1) (
+    let s = c .before .before .before .before .before .before .before .before .before .before .before .before in
+    let l = c .before .before .before .before .before .before .before .before .before .loop in
+    let h = below (c .before .before .before .before .before .before .before .before .loop-test .taken) (s .pre .1) in
+    rw (c .before .before .root .ensures, s .pre .1) (
       (in-order _ _ (s .pre .0), root-inside _ _ (s .pre .0) (l .inv) h),
-      room _ _ (s .pre .0) (l .inv) h (two-keeps _ _ _ (c .before .before .before .before .put-procedure .ensures)),
+      room _ _ (s .pre .0) (l .inv) h (two-keeps _ _ _ (c .before .before .before .before .before .put-procedure .ensures)),
     )
 
 add-procedure : tie.Need-add-procedure Inv-loop μ-loop
 add-procedure c = let q =
-    few _ _ (c .before .before .before .before .before .before .before .before .before .before .before .before .before .before .pre .0) in
-    omega (arith, c .before .before .before .before .before .before .before .before .before .before .before .before .before .before .pre .1)
+    few _ _ (c .before .before .before .before .before .before .before .before .before .before .before .before .before .before .before .pre .0) in
+    omega (arith, c .before .before .before .before .before .before .before .before .before .before .before .before .before .before .before .pre .1)
 
 loop-less : tie.Need-loop-less Inv-loop μ-loop
 loop-less c = omega arith
 
 loop-again : tie.Need-loop-again Inv-loop μ-loop
 loop-again c =
-    let s = c .before .before .before .before .before .before .before .before .before .before .before .before .before .before in
-    let l = c .before .before .before .before .before .before .before .before .before .before .before .loop in
-    let h = below (c .before .before .before .before .before .before .before .before .before .before .loop-test .taken) (s .pre .1) in
+    let s = c .before .before .before .before .before .before .before .before .before .before .before .before .before .before .before in
+    let l = c .before .before .before .before .before .before .before .before .before .before .before .before .loop in
+    let h = below (c .before .before .before .before .before .before .before .before .before .before .before .loop-test .taken) (s .pre .1) in
     next _ _ (s .pre .0) (l .inv) h
-    (rw (c .before .before .before .before .before .before .before .before .before .parameters .ensures) at
-    (c .before .before .before .before .before .before .before .put-procedure .ensures))
-    (rw (c .before .before .before .before .root .ensures, s .pre .1) at (c .before .before .write-expression .ensures))
+    (rw (c .before .before .before .before .before .before .before .before .before .before .parameters .ensures) at
+    (c .before .before .before .before .before .before .before .before .put-procedure .ensures))
+    (rw (c .before .before .before .before .before .root .ensures, s .pre .1) at (c .before .before .write-expression .ensures))
 
 same-length : tie.Need-same-length Inv-loop μ-loop
 same-length c = kept _ _ (c .before .before .before .before .pre .0) (c .before .loop .inv)

@@ -11,8 +11,7 @@ place-at-requires c κs = search needs
 number-requires : tie.Need-number-requires
 number-requires c κs =
     let place = c .before .before in
-    let p = place .before .before .before .pre in
-    (omega (arith, p .long, place .place-at .ensures .1), omega (arith, p .most-below))
+    (place .place-at .ensures .1, place .before .before .before .pre .long)
 
 same-length : tie.Need-same-length
 same-length c = search needs

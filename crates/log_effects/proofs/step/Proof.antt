@@ -42,7 +42,7 @@ access-requires-2 c κs =
     let f = c .before .first .ensures in
     let n = number-most (c .before .before .before .before .before .number-at .ensures) (p .numbered) in
     let t = c .before .before .before .before .before .before .before .before .before .before .thread-at .ensures .1 in
-    (p .sound, (t, (omega (arith, p .short), ((omega arith, omega (arith, p .numbers .most-below)), omega (arith, p .room)))))
+    (p .sound, (t, (omega (arith, p .short), ((omega arith, omega (arith, p .most-below)), omega (arith, p .room)))))
 
 same-length-2 : tie.Need-same-length-2
 same-length-2 c = search needs

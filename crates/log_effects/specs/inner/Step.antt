@@ -7,7 +7,7 @@ use mathlib.Core.Logic.{_⊎_}
 use lib.ListN.{length, getD}
 use Rattle.log_records.specs.Packed.{kindAt, recordAt}
 use Rattle.log_clocks.specs.inner.Rows.{Row}
-use Rattle.log_places.specs.inner.Places.{threadAt, placeAt, Numbered}
+use Rattle.log_places.specs.inner.Places.{threadAt, placeAt, numbersOf, Numbered}
 use Rattle.log_rows.specs.inner.Rows.{placeRow, isAccess, passes}
 use Rattle.log_row_stores.specs.inner.Table.{Sound, Hears, Told, Accessed}
 use Rattle.log_effects.specs.declared.Taking.{Taking}
@@ -18,9 +18,8 @@ abbrev pub fieldAt : List ℕ → ℕ → ℕ
 fieldAt b i = recordAt b i .field
 
 -- what is known where the place of record i is looked up
-pub record Numbers (b : List ℕ) (i most : ℕ) (N : List ℕ) : Type 0 where
+pub record Numbers (b : List ℕ) (i : ℕ) (N : List ℕ) : Type 0 where
   pub below : i < length b / 3
-  pub most-below : most ≤ 1024
   pub long : length N ≡ 1024
 
 -- what is known where record i, of kind k and thread t, is at no place
@@ -34,10 +33,11 @@ pub record Elsewhere (b : List ℕ) (i k t time : ℕ) (rows : List Row) : Type 
 
 -- what is known where record i comes to the table, which has rows for so many places
 pub record Ready (b : List ℕ) (i most : ℕ) (N : List ℕ) (rows : List Row) : Type 0 where
-  pub numbers : Numbers b i most N
+  pub numbers : Numbers b i N
+  pub most-below : most ≤ 1024
   pub short : i < 4096
   pub field-below : (kindAt b i ≡ 8) ⊎ (kindAt b i ≡ 9) → fieldAt b i < 8
-  pub numbered : (p : ℕ) → getD N p 0 ≤ most
+  pub numbered : (p : ℕ) → getD (numbersOf most N) p 0 ≤ most
   pub sound : Sound rows
   pub room : placeRow most + 2 < length rows
 

@@ -54,7 +54,7 @@ returns-2 c =
     by-slots b _ Passed (t .before .before .check-names .ensures) (t .enum-told .given .1) (sym (rw m7))
 
 lowest-open-requires : tie.Need-lowest-open-requires
-lowest-open-requires c κs = let s = c .before .before .before .before .before .before in (s .pre .0, s .pre .1 .0)
+lowest-open-requires c κs = let s = c .before .before .before .before .before .before .before in (s .pre .0, s .pre .1 .0)
 
 refused-requires : tie.Need-refused-requires
 refused-requires c κs = search needs
@@ -62,7 +62,7 @@ refused-requires c κs = search needs
 returns-3 : tie.Need-returns-3
 unfolding answered refuse firstRefusal checks
 returns-3 c =
-    let t = c .before .before .before .before .before in
+    let t = c .before .before .before .before .before .before in
     let s = t .before .before .before .before in
     let b = s .args .plan .now in
     let m7 : lowest (usesUnboundSlot b) (procedures b) ≡ some (c .before .before .lowest-open .result) =
@@ -73,7 +73,7 @@ returns-3 c =
 returns-4 : tie.Need-returns-4
 unfolding answered refuse firstRefusal checks
 returns-4 c =
-    let t = c .before .before .before .before in
+    let t = c .before .before .before .before .before in
     let s = t .before .before .before .before in
     let b = s .args .plan .now in
     let m7 : lowest (usesUnboundSlot b) (procedures b) ≡ none =

@@ -16,17 +16,17 @@ shl-closed-expression : tie.Need-shl-closed-expression
 shl-closed-expression c = search needs
 
 sub-closed-expression : tie.Need-sub-closed-expression
-sub-closed-expression c = rw (shl-one _ (c .pre .2)) (omega (arith, pow-pos (c .args .parameters)))
+sub-closed-expression c = rw (shl-one _ (c .before .pre .2)) (omega (arith, pow-pos (c .before .args .parameters)))
 
 closed-expression-requires : tie.Need-closed-expression-requires
 closed-expression-requires c κs = search needs
 
 returns : tie.Need-returns
 returns c =
-    let k = c .before .args .parameters in
+    let k = c .before .before .args .parameters in
     c .closed-expression .ensures
-    ∙ ap (λ (s : ℕ → Bool). closed s (treeIn (c .before .args .words .now) (c .before .args .root)))
-    (ap (λ (m : ℕ). slots (m - 1)) (shl-one k (c .before .pre .2)) ∙ parameters-are k)
+    ∙ ap (λ (s : ℕ → Bool). closed s (treeIn (c .before .before .args .words .now) (c .before .before .args .root)))
+    (ap (λ (m : ℕ). slots (m - 1)) (shl-one k (c .before .before .pre .2)) ∙ parameters-are k)
 
 pub closed-with-spec : {M : Type 1} → statement M
 closed-with-spec =

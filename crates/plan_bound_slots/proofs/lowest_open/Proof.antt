@@ -21,29 +21,29 @@ loop-holds : tie.Need-loop-holds Inv-loop μ-loop
 loop-holds c = (search needs, λ k h. absurd (omega arith))
 
 parameters-requires : tie.Need-parameters-requires Inv-loop μ-loop
-parameters-requires c κs = let s = c .before .before .before in there (s .pre .0) _ (c .loop-test .taken)
+parameters-requires c κs = let s = c .before .before .before .before in there (s .pre .0) _ (c .loop-test .taken)
 
 shl-bound : tie.Need-shl-bound Inv-loop μ-loop
-shl-bound c = let s = c .before .before .before .before in few (s .pre .0) _ (c .before .loop-test .taken) (c .parameters .ensures)
+shl-bound c = let s = c .before .before .before .before .before in few (s .pre .0) _ (c .before .loop-test .taken) (c .parameters .ensures)
 
 sub-bound : tie.Need-sub-bound Inv-loop μ-loop
-sub-bound c = let s = c .before .before .before .before in some (s .pre .0) _ (c .before .loop-test .taken) (c .parameters .ensures)
+sub-bound c = let s = c .before .before .before .before .before in some (s .pre .0) _ (c .before .loop-test .taken) (c .parameters .ensures)
 
 root-requires : tie.Need-root-requires Inv-loop μ-loop
-root-requires c κs = let s = c .before .before .before .before in there (s .pre .0) _ (c .before .loop-test .taken)
+root-requires c κs = let s = c .before .before .before .before .before in there (s .pre .0) _ (c .before .loop-test .taken)
 
 closed-expression-requires : tie.Need-closed-expression-requires Inv-loop μ-loop
 closed-expression-requires c κs =
-    let s = c .before .before .before .before .before in
+    let s = c .before .before .before .before .before .before in
     root-call (s .pre .0) _ (c .before .before .loop-test .taken) (s .pre .1) (c .root .ensures)
 
 -- the procedure of this turn
 seen :
     (c : tie.After-closed-expression Inv-loop μ-loop) →
-    usesUnboundSlot (c .before .before .before .before .before .before .args .plan .now) (c .before .before .before .before .loop .procedure) ≡ not
+    usesUnboundSlot (c .before .before .before .before .before .before .before .args .plan .now) (c .before .before .before .before .loop .procedure) ≡ not
     (c .closed-expression .result)
 seen c =
-    let s = c .before .before .before .before .before .before in
+    let s = c .before .before .before .before .before .before .before in
     opens (s .pre .0) _ (c .before .before .before .loop-test .taken) (s .pre .1) (c .before .root .ensures) (c .before .before .parameters .ensures)
     (c .closed-expression .ensures)
 
@@ -61,7 +61,7 @@ loop-again : tie.Need-loop-again Inv-loop μ-loop
 loop-again c = (search needs, below-more _ _ (c .before .before .before .before .before .loop .inv .1) (seen (c .before) ∙ c .if1 .left))
 
 returns-2 : tie.Need-returns-2 Inv-loop μ-loop
-returns-2 c = found-none (usesUnboundSlot (c .before .before .before .args .plan .now)) _ _ (search needs) (search needs) (c .before .loop .inv .1)
+returns-2 c = found-none (usesUnboundSlot (c .before .before .before .before .args .plan .now)) _ _ (search needs) (search needs) (c .before .loop .inv .1)
 
 pub lowest-open-spec : {M : Type 1} → statement M
 lowest-open-spec =

@@ -7,11 +7,12 @@ use mathlib.Core.Path.{_≡_, refl, sym, ap, _∙_}
 use mathlib.Core.List.{List, [], _∷_, _++_}
 use lib.ListN.{length, length-set, getD, drop}
 use borrow.Author.Needs.{needs}
+use Rattle.plan_notation.specs.Tokens.{textEnd}
 use Rattle.plan_notation.specs.Layout.{Pen, laidFrom, laidOut}
 use Rattle.plan_notation.proofs.Widths.{few-bytes}
 use Rattle.plan_pen.specs.declared.Gap.{Gap}
 use Rattle.plan_pen.specs.inner.Pens.{penOf}
-use Rattle.plan_pen.proofs.PenLaws.{next-column, next-depth}
+use Rattle.plan_pen.proofs.PenLaws.{next-column, next-depth, next-last}
 use Rattle.plan_layout.specs.inner.Marks.{textTo}
 use Rattle.plan_layout.proofs.LaidLaws.{gap-short, laid-length, laid-on, laid-none}
 use Rattle.plan_layout.proofs.MarkLaws.{text-more, few-more}
@@ -25,16 +26,17 @@ record Marking (ts ms : List ℕ) (p : Pen) (i n : ℕ) : Type 0 where
   few : (k : ℕ) → k < i → getD ms k 0 % 64 ≤ 40
 
 abbrev Inv-loop : tie.InvT-loop
-Inv-loop rows tokens marks₀ pen₀ total₀ index₀ marks pen total index =
+Inv-loop rows looks tokens marks₀ pen₀ total₀ index₀ marks pen total index =
     (index ≤ length tokens)
     × (total ≤ 50 * index)
     × (pen .column < 100)
     × (pen .depth ≤ index)
     × (total + length (laidFrom (penOf pen) (drop index tokens)) ≡ length (laidOut tokens))
     × Marking tokens marks (penOf pen) index (length marks₀)
+    × (pen .last ≤ textEnd)
 
 abbrev μ-loop : tie.MeasureT-loop
-μ-loop rows tokens marks₀ pen₀ total₀ index₀ marks pen total index = length tokens - index
+μ-loop rows looks tokens marks₀ pen₀ total₀ index₀ marks pen total index = length tokens - index
 
 -- a token takes at most 50 bytes
 few-of : (c : tie.After-length-of Inv-loop μ-loop) → c .length-of .result + c .before .before .before .width .result ≤ 50
@@ -44,7 +46,7 @@ few-of c =
       c .length-of .ensures,
       gap-short (c .before .before .gap-before .result) (c .before .before .gap-before .ensures .few),
       c .before .before .before .width .ensures,
-      few-bytes _ (c .before .before .before .before .before .before .before .before .before .before .pre .0 .1
+      few-bytes _ (c .before .before .before .before .before .before .before .before .before .before .pre .0 .2
           (c .before .before .before .before .before .before .loop .index)),
     )
 
@@ -61,6 +63,7 @@ loop-holds c =
       omega (arith, ap (λ (p : Pen). p .depth) e),
       rw zero-add (ap (λ (p : Pen). length (laidFrom p (c .before .before .before .args .tokens .now))) e),
       record { kept = refl; text = sym (ap (λ (p : Pen). laidFrom p (c .before .before .before .args .tokens .now)) e); few = λ k l. absurd (omega arith) },
+      omega (arith, ap (λ (p : Pen). p .last) e),
     )
 
 shared-slice-read-token : tie.Need-shared-slice-read-token Inv-loop μ-loop
@@ -69,22 +72,16 @@ shared-slice-read-token c = search needs
 width-requires : tie.Need-width-requires Inv-loop μ-loop
 width-requires c κs = (
   c .before .before .before .before .before .before .pre .0 .0,
-  c .before .before .before .before .before .before .pre .0 .1
+  c .before .before .before .before .before .before .pre .0 .2
       (c .before .before .loop .index),
 )
 
 gap-before-requires : tie.Need-gap-before-requires Inv-loop μ-loop
 gap-before-requires c κs =
-    let l = c .before .before .before .loop in (
-      c .width .ensures,
-      omega (
-        arith,
-        c .width .ensures,
-        few-bytes _ (c .before .before .before .before .before .before .before .pre .0 .1
-            (l .index)),
-      ),
-      l .inv .2,
-    )
+    let l = c .before .before .before .loop in
+    let s = c .before .before .before .before .before .before .before in
+    let k = s .pre .0 .2 (l .index) in
+    ((s .pre .0 .1, k, l .inv .6), (c .width .ensures, omega (arith, c .width .ensures, few-bytes _ k), l .inv .2))
 
 mark-requires : tie.Need-mark-requires Inv-loop μ-loop
 mark-requires c κs = c .gap-before .ensures .few
@@ -123,14 +120,18 @@ add-total-2 c = let l = c .before .before .before .before .before .before .loop 
 after-requires : tie.Need-after-requires Inv-loop μ-loop
 after-requires c κs =
     let s = c .before .before .before .before .before .before .before .before .before .before in
-    let l = c .before .before .before .before .before .before .loop in (
+    let l = c .before .before .before .before .before .before .loop in
+    let k = s .pre .0 .2 (l .index) in (
+      (s .pre .0 .1, k),
       (
-        c .before .before .before .width .ensures,
-        omega (arith, c .before .before .before .width .ensures, few-bytes _ (s .pre .0 .1 (l .index))),
-        l .inv .2,
-        omega (arith, l .inv .3, c .before .before .before .before .before .loop-test .taken, s .pre .1 .0),
+        (
+          c .before .before .before .width .ensures,
+          omega (arith, c .before .before .before .width .ensures, few-bytes _ k),
+          l .inv .2,
+          omega (arith, l .inv .3, c .before .before .before .before .before .loop-test .taken, s .pre .1 .0),
+        ),
+        c .before .before .gap-before .ensures,
       ),
-      c .before .before .gap-before .ensures,
     )
 
 add-index : tie.Need-add-index Inv-loop μ-loop
@@ -153,7 +154,7 @@ loop-again c =
     let inside : l .index < length (l .marks) = omega (arith, t, o .kept, s .pre .1 .1) in (
       omega (arith, t),
       omega (arith, few-of (c .before), l .inv .1),
-      next-column _ _ _ e (s .pre .0 .1 (l .index)),
+      next-column _ _ _ e (s .pre .0 .2 (l .index)),
       omega (arith, l .inv .3, next-depth _ _ _ e),
       omega (arith, l .inv .4, n, c .before .length-of .ensures, c .before .before .before .before .width .ensures),
       record {
@@ -163,6 +164,7 @@ loop-again c =
             (sym (text-more ts (l .marks) (l .index) (m .result) (g .result) inside (m .ensures)));
         few = few-more (l .marks) (l .index) (m .result) inside (rw (ap (λ (x : Gap). x .spaces) (m .ensures)) (g .ensures .few)) (o .few);
       },
+      next-last _ _ _ e (s .pre .0 .2 (l .index)),
     )
 
 add-result : tie.Need-add-result Inv-loop μ-loop

@@ -6,8 +6,7 @@ use Rattle.plan_notation.proofs.Widths.{few-bytes}
 use lib.ListN.{length-append}
 use Rattle.plan_notation.specs.Tokens.{textOf}
 use Rattle.plan_pen.specs.inner.Pens.{gapBytes}
-use Rattle.plan_layout.proofs.LaidLaws.{gap-short}
-use Rattle.plan_layout.proofs.Within.{within-exact, within-later, within-more}
+use Rattle.plan_layout.proofs.Within.{within-exact, within-later}
 use borrow.Author.Needs.{needs}
 use Rattle.plan_layout.proofs.put_next.Statement.{statement}
 use Rattle.plan_layout.proofs.put_next.Tie as tie
@@ -43,41 +42,18 @@ returns c =
     let w = added-more (c .before .before .before .before .before .before .put-gap .ensures) (c .before .before .put-token .ensures) in
     within-exact (s .args .total) (omega (arith, w .next, s .pre .1 .0, length-append (gapBytes (s .args .gap)) (textOf (s .args .token)))) w
 
-put-wide-gap-requires : tie.Need-put-wide-gap-requires
-put-wide-gap-requires c κs = let s = c .before .before .before .before in (s .pre .0 .2, omega (arith, s .pre .1 .1, s .pre .1 .0, c .before .if1 .left))
-
-put-wide-token-requires : tie.Need-put-wide-token-requires
-put-wide-token-requires c κs =
-    let s = c .before .before .before .before .before .before .before .before in
-    let w = c .before .before .before .put-wide-gap .ensures in (
-      s .pre .0 .0,
-      (
-        s .pre .0 .1,
-        c .before .before .before .before .before .before .width .ensures,
-        omega (
-          arith,
-          s .pre .1 .0,
-          s .pre .1 .1,
-          w .next,
-          w .kept,
-          c .before .before .before .before .before .if1 .left,
-          gap-short (s .args .gap)
-              (s .pre .0 .2),
-        ),
-      ),
-    )
+put-wide-requires : tie.Need-put-wide-requires
+put-wide-requires c κs =
+    let s = c .before .before .before .before in
+    (s .pre .0 .0, (s .pre .0 .1, c .before .before .width .ensures, s .pre .0 .2, omega (arith, s .pre .1 .1, s .pre .1 .0, c .before .if1 .left)))
 
 same-length-2 : tie.Need-same-length-2
-same-length-2 c = c .before .before .put-wide-token .ensures .kept ∙ c .before .before .before .before .before .before .put-wide-gap .ensures .kept
+same-length-2 c = c .before .before .put-wide .ensures .kept
 
 returns-2 : tie.Need-returns-2
 returns-2 c =
-    let s = c .before .before .before .before .before .before .before .before .before .before .before in
-    let w = c .before .before .before .before .before .before .put-wide-gap .ensures in
-    let n = gap-short (s .args .gap) (s .pre .0 .2) in
-    within-more (within-later (s .args .total) (omega (arith, s .pre .1 .0, c .before .before .before .before .before .before .before .before .if1 .left)) w)
-    (within-later (s .args .total) (omega (arith, s .pre .1 .0, c .before .before .before .before .before .before .before .before .if1 .left, w .next, n))
-    (c .before .before .put-wide-token .ensures))
+    let s = c .before .before .before .before .before .before .before in
+    within-later (s .args .total) (omega (arith, s .pre .1 .0, c .before .before .before .before .if1 .left)) (c .before .before .put-wide .ensures)
 
 pub put-next-spec : {M : Type 1} → statement M
 put-next-spec =
@@ -89,7 +65,6 @@ put-next-spec =
     put-token-requires
     same-length
     returns
-    put-wide-gap-requires
-    put-wide-token-requires
+    put-wide-requires
     same-length-2
     returns-2)

@@ -30,3 +30,8 @@ pub record WroteWithin (before : List ℕ) (at : ℕ) (bytes after : List ℕ) (
   pub kept : length after ≡ length before
   pub text : take r after ≡ take at before ++ bytes
   pub rest : drop end after ≡ drop end before
+
+-- a room begins with r bytes, the text of these tokens, if r is not 0
+pub record LaidWithin (ts room : List ℕ) (r : ℕ) : Type 0 where
+  pub within : r ≤ length room
+  pub laid : 0 < r → take r room ≡ laidOut ts

@@ -1,17 +1,14 @@
--- `put` meets its contract: no token, no room, or one token more. Assumes nothing.
+-- `put` meets its contract: no room, or one token more. Assumes nothing.
 use borrow.Author.Needs.{needs}
-use Rattle.plan_lexer.proofs.KeptLaws.{adds-none, adds-full, adds-one}
+use Rattle.plan_lexer.proofs.KeptLaws.{adds-full, adds-one}
 use Rattle.plan_lexer.proofs.put.Statement.{statement}
 use Rattle.plan_lexer.proofs.put.Tie as tie
-
-returns : tie.Need-returns
-returns c = adds-none _ _ _ (c .if1 .taken)
 
 add-result : tie.Need-add-result
 add-result c = search needs
 
-returns-2 : tie.Need-returns-2
-returns-2 c = adds-full _ _ _ (c .before .if1 .left) (c .if2 .taken)
+returns : tie.Need-returns
+returns c = adds-full _ _ _ (c .if1 .taken)
 
 slice-write-tokens : tie.Need-slice-write-tokens
 slice-write-tokens c = search needs
@@ -22,10 +19,8 @@ add-result-2 c = search needs
 same-length : tie.Need-same-length
 same-length c = search needs
 
-returns-3 : tie.Need-returns-3
-returns-3 c = adds-one _ _ _ (c .before .if1 .left) (c .if2 .left)
+returns-2 : tie.Need-returns-2
+returns-2 c = adds-one _ _ _ (c .if1 .left)
 
 pub put-spec : {M : Type 1} → statement M
-put-spec =
-    tie.close
-    (tie.spec returns add-result returns-2 slice-write-tokens add-result-2 same-length returns-3)
+put-spec = tie.close (tie.spec add-result returns slice-write-tokens add-result-2 same-length returns-2)

@@ -13,10 +13,9 @@ use Rattle.plan_parser.specs.inner.Stacks.{Entries}
 pub record Makeable (words values : List ℕ) (n left k : ℕ) : Type 0 where
   pub tag-known : k < 21
   pub some-left : 0 < left
-  pub few-left : left ≤ 1024
-  pub few : n < 3108
-  pub words-long : length words ≡ 1024
-  pub values-long : length values ≡ 3108
+  pub few-left : left ≤ length words
+  pub few-words : length words ≤ 1024
+  pub few : n < length values
   pub ordered : Ordered words
   pub entries : Entries left values n
   pub operands : Operands (getD operandKinds k []) (valuesOf words values n)
@@ -25,8 +24,8 @@ pub record Makeable (words values : List ℕ) (n left k : ℕ) : Type 0 where
 pub record Makes (words values : List ℕ) (n left k : ℕ) (words′ values′ : List ℕ) (n′ : ℕ) : Type 0 where
   pub values-are : valuesOf words′ values′ n′ ≡ made k (valuesOf words values n)
   pub ordered : Ordered words′
-  pub words-long : length words′ ≡ 1024
-  pub values-long : length values′ ≡ 3108
+  pub words-long : length words′ ≡ length words
+  pub values-long : length values′ ≡ length values
   pub entries : Entries (left - 1) values′ n′
   pub terms-stay : (i : ℕ) → left ≤ i → getD words′ i 0 ≡ getD words i 0
   pub few : n′ ≤ n + 1

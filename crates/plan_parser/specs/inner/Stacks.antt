@@ -8,12 +8,12 @@ use lib.ListN.{length, getD, drop}
 use Rattle.plan_parsing.specs.Goals.{Goal}
 use Rattle.plan_parser_goals.specs.inner.Encoded.{goalsOf, valuesOf, stacked, unpacked}
 use Rattle.plan_parser_goals.specs.inner.Moves.{Seen, pushed}
-use Rattle.plan_parser_goals.specs.declared.Sight.{Sight}
+use Rattle.plan_parser_goals.specs.inner.Moves.{Sight}
 
 -- goals on those of an array, of which so many were there
 pub record Stacked (f : List Goal → List Goal) (goals : List ℕ) (n : ℕ) (goals′ : List ℕ) (n′ : ℕ) : Type 0 where
   pub goals-are : goalsOf goals′ n′ ≡ f (goalsOf goals n)
-  pub long : length goals′ ≡ 8408
+  pub long : length goals′ ≡ length goals
   pub above : n ≤ n′
 
 -- the values of an array are terms from the first that is made on, or numbers
@@ -23,7 +23,7 @@ Entries left values n = (i : ℕ) → i < n → (left ≤ getD values i 0) × (g
 -- a value in place of so many of those of an array
 pub record Put (popped value : ℕ) (values : List ℕ) (n : ℕ) (values′ : List ℕ) (n′ : ℕ) : Type 0 where
   pub values-are : (words : List ℕ) → valuesOf words values′ n′ ≡ pushed value (drop popped (valuesOf words values n))
-  pub long : length values′ ≡ 3108
+  pub long : length values′ ≡ length values
   pub entries : (left : ℕ) → left ≤ 1024 → Entries left values n → Entries left values′ n′
   pub few : n′ ≤ n + 1
 

@@ -10,9 +10,6 @@ use Rattle.plan_parsing.specs.Goals.{Goal, expect, operand, more, make, binder,
 use Rattle.plan_parsing.specs.Goals.{ofArguments, numberIn, valueAt, operandCounts, made, Form, forms, notifyAllForm}
 use Rattle.plan_parsing.specs.Parser.{ahead, Reason, wanted, Step, go, stop, fits, begun, step}
 use Rattle.plan_parser_goals.specs.inner.Encoded.{sortOf, goalOf, reasonOf, stacked, unpacked, valueSort}
-use Rattle.plan_parser_goals.specs.declared.Sight.{Sight}
-use Rattle.plan_parser_goals.specs.declared.Move.{Move}
-use Rattle.plan_parser_goals.specs.declared.Move.the-variants.{Go, Make, Stop}
 
 -- ---- goals that have what they take
 
@@ -86,6 +83,21 @@ Fits (further k ∷ gs) vs = (k < 256) × ((v : Value) → IsTerm v → Fits gs 
 Fits (count ∷ gs) vs = (n : ℕ) → n < 9 → Fits gs (number n ∷ vs)
 
 -- ---- what a move does
+
+-- the next three tokens, the sort of the value that was read last, and its number
+pub record Sight : Type 0 where
+  pub first : ℕ
+  pub second : ℕ
+  pub third : ℕ
+  pub sort : ℕ
+  pub number : ℕ
+
+-- some tokens are taken; goals in place of the goal, kept at the bottom, then next, then the digits of goals; a value less, and one more; or a term of a tag
+-- is made of the values; or reading stops, before a token
+pub data Move : Type 0 where
+  Go : (taken kept next goals popped value : ℕ) → Move
+  Make : (tag : ℕ) → Move
+  Stop : (before reason : ℕ) → Move
 
 -- a step, with the goals that were below
 unfoldable pub onto : List Goal → Step → Step

@@ -7,7 +7,7 @@ use Rattle.plan_reader.proofs.keep.Statement.{statement}
 use Rattle.plan_reader.proofs.keep.Tie as tie
 
 closed-with-requires : tie.Need-closed-with-requires
-closed-with-requires c κs = let s = c .before in (s .pre .1, s .pre .2, omega (arith, s .pre .3))
+closed-with-requires c κs = let s = c .before .before in (s .pre .1, s .pre .2, omega (arith, s .pre .3))
 
 returns : tie.Need-returns
 returns c = record { so = (sym (c .before .closed-with .ensures) ∙ not-true _ (c .if1 .taken), refl, refl) }

@@ -13,11 +13,12 @@ use Rattle.plan_packed.specs.inner.Steps.{Ordered, treeIn}
 use Rattle.plan_written.specs.Written.{sizeOfAll}
 use Rattle.plan_writer.specs.inner.Held.{heldFrom, heldProgram}
 use Rattle.plan_parser_goals.specs.inner.Encoded.{reasonOf}
+use Rattle.plan_parser.specs.inner.Reading.{termsLeft}
 use Rattle.plan_reader.specs.declared.Heading.{Heading}
 use Rattle.plan_reader.specs.declared.Outcome.{Outcome}
-use Rattle.plan_reader.specs.declared.Outcome.the-variants.{Plan, Refused}
+use Rattle.plan_reader.specs.declared.Outcome.the-variants.{Plan, Refused, Full}
 use Rattle.plan_reader.specs.declared.Next.{Next}
-use Rattle.plan_reader.specs.declared.Next.the-variants.{On, Last, Stop}
+use Rattle.plan_reader.specs.declared.Next.the-variants.{On, Last, Stop, Crowded}
 
 -- the parameter count at a token, if it is the word `procedure`
 unfoldable pub countAt : List ℕ → ℕ → List ℕ
@@ -69,27 +70,28 @@ pub record PlanHeld (ts : List ℕ) (v m n left : ℕ) (words roots counts : Lis
   pub says : readPlan ts ≡ plan (heldProgram v m n words roots counts)
   pub ordered : Ordered words
   pub there : (q : ℕ) → q < n → (left ≤ getD roots q 0) × (getD roots q 0 < 1024) × (getD counts q 0 ≤ 8)
-  pub sized : sizeOfAll (heldFrom words roots counts 0 n) + left ≡ 1024
+  pub sized : sizeOfAll (heldFrom words roots counts 0 n) + left ≡ length words
   pub few : n ≤ 32
 
--- what comes of a plan's tokens
+-- what comes of a plan's tokens; arrays are too short only where they are not for every text
 abbrev pub ReadBy : List ℕ → List ℕ → List ℕ → List ℕ → Outcome → Type 0
 ReadBy ts words roots counts (Plan v m n left) = PlanHeld ts v m n left words roots counts × (v ≤ 1)
 ReadBy ts words roots counts (Refused kind reason at) = Faulty ts kind reason at
+ReadBy ts words roots counts Full = length words < 1024
 
 pub record ReadAs (ts words roots counts : List ℕ) (r : Outcome) : Type 0 where
   pub so : ReadBy ts words roots counts r
 
 -- where reading stands: procedure p is next
 pub record Going (ts : List ℕ) (v m : ℕ) (words roots counts : List ℕ) (p at left : ℕ) : Type 0 where
-  pub same : readPlan ts ≡ proceduresBy (countsOf ts) (32 - p) p (record { version = v; mask = m; procedures = heldFrom words roots counts 0 p }) left
-      (drop at ts)
+  pub same : readPlan ts ≡ proceduresBy (countsOf ts) (32 - p) p (record { version = v; mask = m; procedures = heldFrom words roots counts 0 p })
+      (termsLeft words left) (drop at ts)
   pub ordered : Ordered words
-  pub words-long : length words ≡ 1024
+  pub few-words : length words ≤ 1024
   pub roots-long : length roots ≡ 32
   pub counts-long : length counts ≡ 32
   pub there : (q : ℕ) → q < p → (left ≤ getD roots q 0) × (getD roots q 0 < 1024) × (getD counts q 0 ≤ 8)
-  pub sized : sizeOfAll (heldFrom words roots counts 0 p) + left ≡ 1024
+  pub sized : sizeOfAll (heldFrom words roots counts 0 p) + left ≡ length words
   pub inside : at ≤ length ts
   pub few : p ≤ 32
 
@@ -98,6 +100,7 @@ abbrev pub GoesAs : List ℕ → ℕ → ℕ → List ℕ → List ℕ → List 
 GoesAs ts v m words roots counts p (On at left) = Going ts v m words roots counts (suc p) at left
 GoesAs ts v m words roots counts p (Last left) = PlanHeld ts v m (suc p) left words roots counts
 GoesAs ts v m words roots counts p (Stop kind reason at) = Faulty ts kind reason at
+GoesAs ts v m words roots counts p Crowded = length words < 1024
 
 pub record Goes (ts : List ℕ) (v m : ℕ) (words roots counts : List ℕ) (p : ℕ) (r : Next) : Type 0 where
   pub so : GoesAs ts v m words roots counts p r
@@ -115,6 +118,7 @@ KeptAs ts p at words roots counts roots′ counts′ root k left next (Last left
     Kept words roots counts roots′ counts′ p root k × (ahead ts next ≡ textEnd) × (left′ ≡ left)
 KeptAs ts p at words roots counts roots′ counts′ root k left next (On at′ left′) =
     Kept words roots counts roots′ counts′ p root k × (ahead ts next ≡ textEnd → ⊥) × (at′ ≡ next) × (left′ ≡ left)
+KeptAs ts p at words roots counts roots′ counts′ root k left next Crowded = ⊥
 
 pub record Keeps (ts : List ℕ) (p at : ℕ) (words roots counts roots′ counts′ : List ℕ) (root k left next : ℕ) (r : Next) : Type 0 where
   pub so : KeptAs ts p at words roots counts roots′ counts′ root k left next r

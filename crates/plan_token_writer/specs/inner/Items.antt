@@ -1,12 +1,12 @@
 -- What is left to write of a tree, as numbers on a stack. No reader of the entry's promise needs it. Assumes nothing.
-use Prim.Native.Nat.{ℕ, zero, suc, _+_, _-_, _*_, _/_, _%_, _≤_, _<_}
+use Prim.Native.Nat.{ℕ, zero, suc, _+_, _-_, _*_, _/_, _%_, _^_, _≤_, _<_}
 use mathlib.Core.Path.{_≡_}
 use mathlib.Core.Bool.{Bool, cond, _&&_}
 use mathlib.Core.List.{List, [], _∷_, _++_}
 use lib.Dec.{eqb, ltb, leb}
 use lib.ListN.{length, getD}
 use Rattle.plan_packed.specs.Format.{fieldsFrom}
-use Rattle.plan_packed.specs.inner.Operands.{tagOf, firstOf, secondOf, thirdOf, slotBits, letFirst, letSecond, fieldBits, writeSecond, procedureBits, listBits}
+use Rattle.plan_packed.specs.inner.Operands.{tagOf, slotBits, fieldBits, procedureBits}
 use Rattle.plan_packed.specs.inner.Steps.{Ordered, treeIn, conditionIn, listIn}
 use Rattle.plan_notation.specs.Tokens.{inWord, thenWord, elseWord, doWord, allWord, andWord, trueWord, notWord, nullWord, newWord, letWord, ifWord, whileWord}
 use Rattle.plan_notation.specs.Tokens.{callWord, forkWord, joinWord, synchWord, waitWord, notifyWord, opening, closing, comma, dot, equals, becomes, dash}
@@ -70,9 +70,14 @@ procedureItem = 73
 abbrev pub childItem : ℕ → ℕ → ℕ
 childItem k c = 128 + 16 * k + c
 
+-- how many bits stand behind the operands that are terms, by number: the first, second and third, both of a let, a write's second, a call's list
+unfoldable pub bitsBehind : ℕ → ℕ
+bitsBehind k = getD (25 ∷ 15 ∷ 5 ∷ 21 ∷ 11 ∷ 10 ∷ 20 ∷ []) k 0
+
 -- the operands that are terms, by number
 unfoldable pub operandBy : ℕ → ℕ → ℕ
-operandBy k w = getD (firstOf w ∷ secondOf w ∷ thirdOf w ∷ letFirst w ∷ letSecond w ∷ writeSecond w ∷ listBits w ∷ []) k 0
+unfolding bitsBehind
+operandBy k w = w / 2 ^ bitsBehind k % 1024
 
 -- the slot of a let, or none
 unfoldable pub binderOn : ℕ → ℕ

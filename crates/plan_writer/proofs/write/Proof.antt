@@ -15,38 +15,38 @@ abbrev μ-loop : tie.MeasureT-loop
 μ-loop version mask procedures terms words roots counts area₀ base procedure₀ number₀ area procedure number = procedures - procedure
 
 put-header-requires : tie.Need-put-header-requires Inv-loop μ-loop
-put-header-requires c κs = let w = c .before .before .pre in (omega (arith, w .long), (w .version-known, w .few-procedures, w .few-terms))
+put-header-requires c κs = let w = c .before .before .before .pre in (omega (arith, w .long), (w .version-known, w .few-procedures, w .few-terms))
 
 mul-base : tie.Need-mul-base Inv-loop μ-loop
-mul-base c = let q = c .before .before .before .before .before .pre .few-procedures in omega arith
+mul-base c = let q = c .before .before .before .before .before .before .pre .few-procedures in omega arith
 
 add-base : tie.Need-add-base Inv-loop μ-loop
-add-base c = let q = c .before .before .before .before .before .pre .few-procedures in omega arith
+add-base c = let q = c .before .before .before .before .before .before .pre .few-procedures in omega arith
 
 loop-holds : tie.Need-loop-holds Inv-loop μ-loop
-loop-holds c = at-start (c .before .before .before .before .before .pre) _
+loop-holds c = at-start (c .before .before .before .before .before .before .pre) _
 
 mul-parameters : tie.Need-mul-parameters Inv-loop μ-loop
-mul-parameters c = let q = c .before .before .before .before .before .before .before .pre .few-procedures in omega arith
+mul-parameters c = let q = c .before .before .before .before .before .before .before .before .pre .few-procedures in omega arith
 
 element-copy-out-parameters : tie.Need-element-copy-out-parameters Inv-loop μ-loop
-element-copy-out-parameters c = let q = c .before .before .before .before .before .before .before .pre .few-procedures in omega arith
+element-copy-out-parameters c = let q = c .before .before .before .before .before .before .before .before .pre .few-procedures in omega arith
 
 mul-root : tie.Need-mul-root Inv-loop μ-loop
-mul-root c = let q = c .before .before .before .before .before .before .before .before .pre .few-procedures in omega arith
+mul-root c = let q = c .before .before .before .before .before .before .before .before .before .pre .few-procedures in omega arith
 
 element-copy-out-root : tie.Need-element-copy-out-root Inv-loop μ-loop
-element-copy-out-root c = let q = c .before .before .before .before .before .before .before .before .pre .few-procedures in omega arith
+element-copy-out-root c = let q = c .before .before .before .before .before .before .before .before .before .pre .few-procedures in omega arith
 
 mul-put-procedure : tie.Need-mul-put-procedure Inv-loop μ-loop
-mul-put-procedure c = let q = c .before .before .before .before .before .before .before .before .before .before .pre .few-procedures in omega arith
+mul-put-procedure c = let q = c .before .before .before .before .before .before .before .before .before .before .before .pre .few-procedures in omega arith
 
 add-put-procedure : tie.Need-add-put-procedure Inv-loop μ-loop
-add-put-procedure c = let q = c .before .before .before .before .before .before .before .before .before .before .pre .few-procedures in omega arith
+add-put-procedure c = let q = c .before .before .before .before .before .before .before .before .before .before .before .pre .few-procedures in omega arith
 
 put-procedure-requires : tie.Need-put-procedure-requires Inv-loop μ-loop
 put-procedure-requires c κs =
-    let w = c .before .before .before .before .before .before .before .before .before .before .pre in
+    let w = c .before .before .before .before .before .before .before .before .before .before .before .pre in
     let l = c .before .before .before .before .loop in
     let t = c .before .before .before .loop-test .taken in
     let k = eight-keeps _ _ _ (c .before .before .before .before .before .before .before .put-header .ensures) in
@@ -54,7 +54,7 @@ put-procedure-requires c κs =
 
 write-expression-requires : tie.Need-write-expression-requires Inv-loop μ-loop
 write-expression-requires c κs =
-    let w = c .before .before .before .before .before .before .before .before .before .before .before .before .before .before .pre in
+    let w = c .before .before .before .before .before .before .before .before .before .before .before .before .before .before .before .pre in
     let l = c .before .before .before .before .before .before .before .before .loop in
     let t = c .before .before .before .before .before .before .before .loop-test .taken in
     let k = eight-keeps _ _ _ (c .before .before .before .before .before .before .before .before .before .before .before .put-header .ensures) in
@@ -62,7 +62,8 @@ write-expression-requires c κs =
 
 add-procedure : tie.Need-add-procedure Inv-loop μ-loop
 add-procedure c =
-    let s = c .before .before .before .before .before .before .before .before .before .before .before .before .before .before .before .before .before in
+    let s = c .before .before .before .before .before .before .before .before .before .before .before .before .before .before .before .before
+    .before .before in
     let q = s .pre .few-procedures in
     omega arith
 
@@ -71,7 +72,8 @@ loop-less c = omega arith
 
 loop-again : tie.Need-loop-again Inv-loop μ-loop
 loop-again c =
-    let w = c .before .before .before .before .before .before .before .before .before .before .before .before .before .before .before .before .before .pre in
+    let w = c .before .before .before .before .before .before .before .before .before .before .before .before .before .before .before .before
+    .before .before .pre in
     let l = c .before .before .before .before .before .before .before .before .before .before .before .loop in
     let t = c .before .before .before .before .before .before .before .before .before .before .loop-test .taken in
     next w (l .inv) t (c .before .before .before .before .before .before .put-procedure .ensures) (c .before .before .write-expression .ensures)
@@ -79,11 +81,11 @@ loop-again c =
 same-length : tie.Need-same-length Inv-loop μ-loop
 same-length c =
     let k = eight-keeps _ _ _ (c .before .before .before .before .put-header .ensures) in
-    kept (c .before .before .before .before .before .before .before .pre) (c .before .loop .inv) ∙ k
+    kept (c .before .before .before .before .before .before .before .before .pre) (c .before .loop .inv) ∙ k
 
 returns : tie.Need-returns Inv-loop μ-loop
 returns c =
-    let w = c .before .before .before .before .before .before .before .pre in
+    let w = c .before .before .before .before .before .before .before .before .pre in
     whole w (c .before .before .before .before .put-header .ensures) (at-end w (c .before .loop .inv) (c .loop-test .left))
 
 pub write-spec : {M : Type 1} → statement M

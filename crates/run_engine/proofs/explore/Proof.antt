@@ -26,6 +26,7 @@ use Rattle.run_state.specs.declared.acted.Acted.{Acted}
 use Rattle.run_state.specs.inner.Acted.{noEntry}
 use Rattle.run_frames.specs.declared.refocusing.Refocusing.{Refocusing}
 use Rattle.run_refocusing.specs.inner.Refocusing.{Stack, Ends}
+use Rattle.run_lists.specs.inner.Lists.{Right}
 use Rattle.run_act.specs.inner.Act.{goesOnBy, changesBy}
 use Rattle.run_tally.specs.declared.Tally.{Tally}
 use Rattle.run_tally.specs.declared.Ran.{Ran}
@@ -51,6 +52,7 @@ use Rattle.run_engine.proofs.Restored.{engineOf, all-restored, restored
 use Rattle.run_engine.proofs.MovedCell.{cell-unchanged}
 use Rattle.run_open_threads.proofs.Lowest.{lowest-ext}
 use Rattle.run_engine.proofs.AllPicks.{kept-before}
+use Rattle.run_engine.proofs.FirstLists.{first-lists}
 use Rattle.run_engine.proofs.Standing as standing
 use Rattle.run_engine.proofs.Standing.{Standing, in-list, standing-as}
 use Rattle.run_engine.proofs.Rounds.{Round, first-round, next-round}
@@ -60,39 +62,46 @@ use Rattle.run_engine.proofs.explore.Statement.{statement}
 use Rattle.run_engine.proofs.explore.Tie as tie
 
 abbrev Inv-loop2 : tie.InvT-loop2
-Inv-loop2 words roots setting every picks notes log₀ heads₀ cells₀ objects₀ places₀ stack₀ passed₀ tally₀ halt₀ dealt₀ moves-before₀ records-before₀ threads
-    lowest from to i₀ log heads cells objects places stack passed tally halt dealt moves-before records-before i =
+Inv-loop2 words roots setting every picks notes log₀ heads₀ cells₀ objects₀ places₀ lists₀ stack₀ passed₀ tally₀ halt₀ dealt₀ moves-before₀ records-before₀
+    threads
+    lowest from to i₀ log heads cells objects places lists stack passed tally halt dealt moves-before records-before i =
     (from ≤ i) × (i ≤ to) × (dealt ≡ to)
     × ((first : List ℕ)
     → Standing words roots setting every first (allPicks picks notes) from log₀ heads₀ cells₀ objects₀ places₀ stack₀ passed₀ tally₀ halt₀ moves-before₀
     records-before₀
     → Standing words roots setting every first (allPicks picks notes) i log heads cells objects places stack passed tally halt moves-before records-before)
+    × Right words lists
 
 abbrev μ-loop2 : tie.MeasureT-loop2
-μ-loop2 words roots setting every picks notes log₀ heads₀ cells₀ objects₀ places₀ stack₀ passed₀ tally₀ halt₀ dealt₀ moves-before₀ records-before₀ threads
-    lowest from to i₀ log heads cells objects places stack passed tally halt dealt moves-before records-before i =
+μ-loop2 words roots setting every picks notes log₀ heads₀ cells₀ objects₀ places₀ lists₀ stack₀ passed₀ tally₀ halt₀ dealt₀ moves-before₀ records-before₀
+    threads
+    lowest from to i₀ log heads cells objects places lists stack passed tally halt dealt moves-before records-before i =
     to - i
 
 abbrev Inv-loop3 : tie.InvT-loop3
-Inv-loop3 words roots setting every picks notes log heads cells objects places stack passed tally halt dealt moves-before records-before threads₀ lowest from
+Inv-loop3 words roots setting every picks notes log heads cells objects places lists stack passed tally halt dealt moves-before records-before threads₀
+    lowest from
     to counts thread₀ threads thread =
     (thread ≤ 8) × (turns (putThread counts heads (map restoreOf cells) objects places setting) (8 - thread) thread threads
     ≡ threadsOf setting counts heads (map restoreOf cells) objects places)
 
 abbrev μ-loop3 : tie.MeasureT-loop3
-μ-loop3 words roots setting every picks notes log heads cells objects places stack passed tally halt dealt moves-before records-before threads₀ lowest from
+μ-loop3 words roots setting every picks notes log heads cells objects places lists stack passed tally halt dealt moves-before records-before threads₀
+    lowest from
     to counts thread₀ threads thread =
     8 - thread
 
 abbrev Inv-loop : tie.InvT-loop
-Inv-loop words roots setting every picks notes₀ log₀ heads₀ cells₀ objects₀ places₀ stack₀ passed₀ tally₀ halt₀ moves-before₀ records-before₀ threads₀ lowest₀
-    from₀ to₀ notes log heads cells objects places stack passed tally halt moves-before records-before threads lowest from to =
+Inv-loop words roots setting every picks notes₀ log₀ heads₀ cells₀ objects₀ places₀ lists₀ stack₀ passed₀ tally₀ halt₀ moves-before₀ records-before₀
+    threads₀ lowest₀
+    from₀ to₀ notes log heads cells objects places lists stack passed tally halt moves-before records-before threads lowest from to =
     Standing words roots setting every log₀ (allPicks picks notes) from log heads cells objects places stack passed tally halt moves-before records-before
-    × Round words roots setting every log₀ picks notes₀ notes lowest from to × (length threads ≡ 8)
+    × Round words roots setting every log₀ picks notes₀ notes lowest from to × (length threads ≡ 8) × Right words lists
 
 abbrev μ-loop : tie.MeasureT-loop
-μ-loop words roots setting every picks notes₀ log₀ heads₀ cells₀ objects₀ places₀ stack₀ passed₀ tally₀ halt₀ moves-before₀ records-before₀ threads₀ lowest₀
-    from₀ to₀ notes log heads cells objects places stack passed tally halt moves-before records-before threads lowest from to =
+μ-loop words roots setting every picks notes₀ log₀ heads₀ cells₀ objects₀ places₀ lists₀ stack₀ passed₀ tally₀ halt₀ moves-before₀ records-before₀ threads₀
+    lowest₀
+    from₀ to₀ notes log heads cells objects places lists stack passed tally halt moves-before records-before threads lowest from to =
     length notes - to
 
 -- ---- a round, and a pick of it: the plan, the picks, the engine's state
@@ -242,10 +251,11 @@ loop-holds c =
       },
       first-round (a .words .now) (a .roots .now) (a .setting) (a .every) (a .log .now) (a .picks .now) (a .notes .now) 0 _ h (c .unseen .ensures),
       refl,
+      first-lists (a .words .now),
     )
 
 loop2-holds : tie.Need-loop2-holds Inv-loop2 μ-loop2 Inv-loop3 μ-loop3 Inv-loop μ-loop
-loop2-holds c = (omega arith, round c .ordered, refl, λ first s. s)
+loop2-holds c = (omega arith, round c .ordered, refl, λ first s. s, c .loop .inv .3)
 
 -- ---- the pick of a thread that is not there
 
@@ -272,6 +282,7 @@ loop2-again c =
             records = records-before d first v (l .loop2 .i + 1 - 1) (omega arith);
             marked = v .marked;
           },
+      i .4,
     )
 
 -- ---- the pick of one that was passed over since the last move
@@ -299,6 +310,7 @@ loop2-again-2 c =
             records = records-before d first v (l .loop2 .i + 1 - 1) (omega arith);
             marked = v .marked;
           },
+      i .4,
     )
 
 -- ---- how a pick begins
@@ -391,6 +403,7 @@ loop2-again-3 c =
             marked = marked-too (words r) (roots r) (setting r) (engine l) (l .loop2 .passed) (pick d % 8) (picked (l .loop2 .stack) answer.Passed) (present x)
                 (passed-over x (neither (begun-so x) (c .before .match .keys2) (c .match2 .keys2))) refl (v .marked);
           },
+      i .4,
     )
 
 -- ---- a pick that stops as it begins
@@ -404,10 +417,10 @@ abbrev Refocused : Type 0
 Refocused = tie.After-refocus Inv-loop2 μ-loop2 Inv-loop3 μ-loop3 Inv-loop μ-loop
 
 abbrev since : Refocused → Begins
-since c = c .before .before .before .before
+since c = c .before .before .before .before .before
 
 abbrev ends : Refocused → Ends
-ends c = record { stack = c .refocus .last .1 .1 .0; refocusings = c .refocus .result }
+ends c = record { stack = c .refocus .last .1 .1 .1 .0; refocusings = c .refocus .result }
 
 module _ (c : Refocused) where
   abbrev there : Opened
@@ -417,13 +430,13 @@ module _ (c : Refocused) where
       ≡ refocusingsFrom (words (opened (at (since c)))) (roots (opened (at (since c)))) (at (since c) .loop2 .tally .counts) (head (since c)) (mover (since c))
       (goOf (begun-so (since c))) (at (since c) .loop2 .stack)
   refocuses =
-      c .refocus .ensures
+      c .refocus .ensures .0
       ∙ ap (λ (g : Refocusing). refocusingsFrom (words there) (roots there) (at (since c) .loop2 .tally .counts) (head (since c)) (mover (since c)) g
-      (at (since c) .loop2 .stack)) (c .before .before .go-of .ensures)
+      (at (since c) .loop2 .stack)) (c .before .before .before .go-of .ensures)
 
   -- it is a move
   moving : OneOf (2 ∷ 3 ∷ []) (tagOf begun-type.the-type (begun-so (since c)))
-  moving = c .before .before .before .match .keys1
+  moving = c .before .before .before .before .match .keys1
 
   -- without room
   full-so : fullOf (c .refocus .result .last) ≡ true → picked (ends c .stack) (noRoom room.Depth) ≡ answered (since c)
@@ -514,6 +527,7 @@ loop2-again-4 c =
             records = records-before d first v (l .loop2 .i + 1 - 1) (omega arith);
             marked = none-marked (words r) (roots r) (setting r) _;
           },
+      f .refocus .ensures .1,
     )
 
 -- ---- a pick of another move, or one that stops the run
@@ -599,6 +613,7 @@ loop2-again-5 c =
             records = records-before d first v (l .loop2 .i + 1 - 1) (omega arith);
             marked = none-marked (words r) (roots r) (setting r) _;
           },
+      f .refocus .ensures .1,
     )
 
 -- ---- the end of a round
@@ -661,9 +676,9 @@ left-so c =
     let t : l .loop2 .i ≡ end r = omega (arith, w .0 .left, i .1) in
     let q : playOf (words r) (roots r) (setting r) (engine l) [] (l .loop2 .i) ≡ whole r =
     v .goes [] ∙ ap (played r) (append-nil (take (l .loop2 .i) (list r)) ∙ ap (λ (n : ℕ). take n (list r)) t) in (
-      ends-as (setting r) (l .loop2 .heads) (cells l) (l .loop2 .objects) (l .loop2 .places) _ _ _ _ _ _ _ _ (w .4 ∙ v .unstopped) (w .5 ∙ i .2 ∙ sym t) (w .3)
+      ends-as (setting r) (l .loop2 .heads) (cells l) (l .loop2 .objects) (l .loop2 .places) _ _ _ _ _ _ _ _ (w .5 ∙ v .unstopped) (w .6 ∙ i .2 ∙ sym t) (w .4)
           (w .1) ∙ q,
-      λ h. absurd (omega (arith, h, w .5, i .2)),
+      λ h. absurd (omega (arith, h, w .6, i .2)),
     )) (⊎-elim (λ w.
     let x : Begins = (record {
       before = record {
@@ -688,8 +703,8 @@ left-so c =
       if3 = w .9;
     }) in
     let came = stops-so x (w .12 .given .1) in (
-      stops-there x came _ _ _ _ (w .21) (w .22) (w .20 ∙ w .15 .ensures .0 .0) (w .18 ∙ w .15 .ensures .1),
-      λ h. halts-there x came (w .21),
+      stops-there x came _ _ _ _ (w .22) (w .23) (w .21 ∙ w .15 .ensures .0 .0) (w .18 ∙ w .15 .ensures .1),
+      λ h. halts-there x came (w .22),
     )) (λ w.
     let x : Begins = (record {
       before = record {
@@ -714,13 +729,12 @@ left-so c =
       if3 = w .9;
     }) in
     let f : Refocused = record {
-      before = record { before = record { before = record { before = x; match = w .10 }; go-of = w .11 }; stack = w .12 };
-      refocus = w
-          .13;
+      before = record { before = record { before = record { before = record { before = x; match = w .10 }; go-of = w .11 }; lists = w .12 }; stack = w .13 };
+      refocus = w .14;
     } in
-    let came = full-so f (sym (w .15 .ensures) ∙ w .16 .taken) in (
-      stops-there x came _ _ _ _ (w .20) (w .21) (w .19 ∙ nothing-put _) (w .17 ∙ nothing-logged _ _ _),
-      λ h. halts-there x came (w .20),
+    let came = full-so f (sym (w .16 .ensures) ∙ w .17 .taken) in (
+      stops-there x came _ _ _ _ (w .22) (w .23) (w .21 ∙ nothing-put _) (w .18 ∙ nothing-logged _ _ _),
+      λ h. halts-there x came (w .22),
     ))) (c .loop2-test .came)
 
 ended : (c : Left)
@@ -745,8 +759,16 @@ stood c h =
     let r = opened l in
     ⊎-elim (λ w.
     let t : end r ≡ l .loop2 .i = omega (arith, w .0 .left, l .loop2 .inv .1) in
-    standing-as (words r) (roots r) (setting r) (every r) (first r) t (w .1) (w .2) (w .3) (w .4) (w .6) (w .7) (here l)) (⊎-elim (λ w.
-    absurd (omega (arith, h, w .22, w .0 .taken))) (λ w. absurd (omega (arith, h, w .21, w .0 .taken)))) (c .loop2-test .came)
+    standing-as (words r) (roots r) (setting r) (every r) (first r) t (w .1) (w .3) (w .4) (w .5) (w .7) (w .8) (here l)) (⊎-elim (λ w.
+    absurd (omega (arith, h, w .23, w .0 .taken))) (λ w. absurd (omega (arith, h, w .23, w .0 .taken)))) (c .loop2-test .came)
+
+-- the kept lists are right
+right : (c : Left) → Right (words (closed c)) (c .loop2-test .lists)
+right c =
+    let i = c .before .loop2 .inv in
+    ⊎-elim (λ w. along (Right (words (closed c))) (sym (w .2)) (i .4))
+    (⊎-elim (λ w. along (Right (words (closed c))) (sym (w .19)) (i .4)) (λ w. along (Right (words (closed c))) (sym (w .19)) (w .14 .ensures .1)))
+    (c .loop2-test .came)
 
 -- the counts before the last pick that was met
 module _ (c : Left) where
@@ -779,22 +801,22 @@ module _ (c : Left) where
 
   counted-moves : c .loop2-test .moves-before ≡ played (closed c) (take k (take (end (closed c)) (list (closed c)))) .outcome .moves
   counted-moves =
-      ⊎-elim (λ w. w .6 ∙ here (c .before) .moves
-      ∙ ap (λ (n : ℕ). played (closed c) (take n (list (closed c))) .outcome .moves) (at-end (w .0 .left) (w .5)))
-      (⊎-elim (λ w. w .23 ∙ moves-before (record { before = record { before = c .before; loop2-test = w .0 }; pick-at = w .1 }) (first (closed c))
-      (here (c .before)) k (at-stop (w .0 .taken) (w .22)))
-      (λ w. w .22 ∙ moves-before (record { before = record { before = c .before; loop2-test = w .0 }; pick-at = w .1 }) (first (closed c)) (here (c .before)) k
-      (at-stop (w .0 .taken) (w .21)))) (c .loop2-test .came)
+      ⊎-elim (λ w. w .7 ∙ here (c .before) .moves
+      ∙ ap (λ (n : ℕ). played (closed c) (take n (list (closed c))) .outcome .moves) (at-end (w .0 .left) (w .6)))
+      (⊎-elim (λ w. w .24 ∙ moves-before (record { before = record { before = c .before; loop2-test = w .0 }; pick-at = w .1 }) (first (closed c))
+      (here (c .before)) k (at-stop (w .0 .taken) (w .23)))
+      (λ w. w .24 ∙ moves-before (record { before = record { before = c .before; loop2-test = w .0 }; pick-at = w .1 }) (first (closed c)) (here (c .before)) k
+      (at-stop (w .0 .taken) (w .23)))) (c .loop2-test .came)
       ∙ ap (λ (ps : List ℕ). played (closed c) ps .outcome .moves) same
 
   counted-records : c .loop2-test .records-before ≡ played (closed c) (take k (take (end (closed c)) (list (closed c)))) .outcome .records
   counted-records =
-      ⊎-elim (λ w. w .7 ∙ here (c .before) .records
-      ∙ ap (λ (n : ℕ). played (closed c) (take n (list (closed c))) .outcome .records) (at-end (w .0 .left) (w .5)))
-      (⊎-elim (λ w. w .24 ∙ records-before (record { before = record { before = c .before; loop2-test = w .0 }; pick-at = w .1 }) (first (closed c))
-      (here (c .before)) k (at-stop (w .0 .taken) (w .22)))
-      (λ w. w .23 ∙ records-before (record { before = record { before = c .before; loop2-test = w .0 }; pick-at = w .1 }) (first (closed c)) (here (c .before))
-      k (at-stop (w .0 .taken) (w .21)))) (c .loop2-test .came)
+      ⊎-elim (λ w. w .8 ∙ here (c .before) .records
+      ∙ ap (λ (n : ℕ). played (closed c) (take n (list (closed c))) .outcome .records) (at-end (w .0 .left) (w .6)))
+      (⊎-elim (λ w. w .25 ∙ records-before (record { before = record { before = c .before; loop2-test = w .0 }; pick-at = w .1 }) (first (closed c))
+      (here (c .before)) k (at-stop (w .0 .taken) (w .23)))
+      (λ w. w .25 ∙ records-before (record { before = record { before = c .before; loop2-test = w .0 }; pick-at = w .1 }) (first (closed c)) (here (c .before))
+      k (at-stop (w .0 .taken) (w .23)))) (c .loop2-test .came)
       ∙ ap (λ (ps : List ℕ). played (closed c) ps .outcome .records) same
 
 -- ---- the look at all threads
@@ -960,6 +982,7 @@ loop-again c =
       ap length (all-seen (over c))
           ∙ eight-threads (gone c .loop2-test .tally .counts) (gone c .before .loop2 .heads) (cells (gone c .before)) (gone c .before .loop2 .objects)
           (gone c .before .loop2 .places) (setting r),
+      right (gone c),
     )
 
 note-requires : tie.Need-note-requires Inv-loop2 μ-loop2 Inv-loop3 μ-loop3 Inv-loop μ-loop
@@ -983,7 +1006,7 @@ same-length-2 : tie.Need-same-length-2 Inv-loop2 μ-loop2 Inv-loop3 μ-loop3 Inv
 same-length-2 c =
     let l = left (c .before .before .before .before) in
     let v = here (l .before) in
-    ⊎-elim (λ w. ap length (w .1) ∙ v .kept) (⊎-elim (λ w. ap length (w .18) ∙ w .15 .kept .0 ∙ v .kept) (λ w. ap length (w .17) ∙ v .kept))
+    ⊎-elim (λ w. ap length (w .1) ∙ v .kept) (⊎-elim (λ w. ap length (w .18) ∙ w .15 .kept .0 ∙ v .kept) (λ w. ap length (w .18) ∙ v .kept))
     (l .loop2-test .came)
 
 -- short of the last place, it has stopped or no thread can be picked
@@ -1034,7 +1057,7 @@ one-less : (n : ℕ) → n < 8 → 8 - (n + 1) < 8 - n
 one-less n h = omega arith
 
 add-thread-2 : tie.Need-add-thread-2 Inv-loop2 μ-loop2 Inv-loop3 μ-loop3 Inv-loop μ-loop
-add-thread-2 c = search needs
+add-thread-2 c = record { fits = omega (arith, c .before .before .before .before .before .before .before .before .before .before .loop3-test .taken) }
 
 loop3-less-2 : tie.Need-loop3-less-2 Inv-loop2 μ-loop2 Inv-loop3 μ-loop3 Inv-loop μ-loop
 loop3-less-2 c = one-less _ (c .before .before .before .before .before .before .before .before .before .before .loop3-test .taken)
@@ -1188,7 +1211,7 @@ explore-spec =
     -- it stops
     (λ c κs. fits (c .before .before .before .before .before))
     -- it refocuses
-    (λ c κs. search needs) (λ c κs. search needs) (λ c κs. search needs)
+    (λ c κs. search needs) (λ c κs. (omega arith, at (c .before .before .before .before) .loop2 .inv .4)) (λ c κs. search needs)
     -- it only goes on elsewhere
     mul-mover array-copy-out-mover enum-known-begun-2 no-entry-requires (λ c κs. fits (since (c .before .before .before .before .before .before .before)))
     gone-requires

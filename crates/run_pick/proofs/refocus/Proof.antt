@@ -11,10 +11,15 @@ forked-way-requires : tie.Need-forked-way-requires
 forked-way-requires c κs = search needs
 
 refocus-requires : tie.Need-refocus-requires
-refocus-requires c κs = rw (c .before .before .mover-way .ensures, c .before .forked-way .ensures) (search needs, search needs, search needs, search needs)
+refocus-requires c κs = rw (c .before .before .before .mover-way .ensures, c .before .before .forked-way .ensures)
+    (search needs, search needs, search needs, search needs, c .before .before .before .before .before .before .pre .1)
 
 returns : tie.Need-returns
-returns c = c .refocus .ensures .0 ∙ rw (c .before .before .before .mover-way .ensures, c .before .before .forked-way .ensures)
+returns c = (
+  c .refocus .ensures .0 ∙ rw (c .before .before .before .before .mover-way .ensures, c .before .before .before .forked-way .ensures),
+  c
+      .refocus .ensures .1 .1,
+)
 
 pub refocus-spec : {M : Type 1} → statement M
 refocus-spec = tie.close (tie.spec mover-way-requires forked-way-requires refocus-requires returns)

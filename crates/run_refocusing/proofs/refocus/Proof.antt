@@ -6,6 +6,7 @@ use Prim.Native.Nat.{ℕ, _<_, _≤_, _+_, _-_}
 use native.Mathlib.Omega.{arith}
 use mathlib.Core.Logic.{⊎-elim}
 use borrow.Author.Tests.{not-true, not-false, lt-ltb, le-ltb}
+use Rattle.run_lists.specs.inner.Lists.{Right}
 use Rattle.run_frames.specs.inner.Going.{goFull}
 use Rattle.run_refocusing_step.specs.declared.Stepped.{Stepped}
 use Rattle.run_refocusing_step.specs.inner.Ahead.{aheadOf, alongOf, steppedOf}
@@ -22,14 +23,15 @@ use Rattle.run_refocusing.proofs.refocus.Statement.{statement}
 use Rattle.run_refocusing.proofs.refocus.Tie as tie
 
 abbrev Inv-loop : tie.InvT-loop
-Inv-loop words roots stack₀ second forks base₀ go₀ depth₀ more₀ before₀ left₀ stack base go depth more before left =
+Inv-loop words roots lists₀ stack₀ second forks base₀ go₀ depth₀ more₀ before₀ left₀ lists stack base go depth more before left =
     (depth ≤ 32) × (base ≤ 264) × (second .base ≤ 264) × (second .depth ≤ 32) × (before .depth ≤ 32)
     × (afterOf words roots more second before (refocusOf left words roots base stack go depth)
     ≡ afterOf words roots more₀ second before₀ (refocusOf left₀ words roots base₀ stack₀ go₀ depth₀))
+    × Right words lists
 
 -- each refocusing has its steps
 abbrev μ-loop : tie.MeasureT-loop
-μ-loop words roots stack₀ second forks base₀ go₀ depth₀ more₀ before₀ left₀ stack base go depth more before left = cond more 2101 0 + left
+μ-loop words roots lists₀ stack₀ second forks base₀ go₀ depth₀ more₀ before₀ left₀ lists stack base go depth more before left = cond more 2101 0 + left
 
 -- where a turn begins
 abbrev Turning : Type 0
@@ -71,11 +73,11 @@ stands c =
 
 -- a step, from a turn
 abbrev turning : tie.After-step Inv-loop μ-loop → Turning
-turning s = s .before .before .before .before .before
+turning s = s .before .before .before .before .before .before
 
 took : (s : tie.After-step Inv-loop μ-loop) → s .step .result ≡ steppedOf (words (turning s)) (roots (turning s)) (turning s .loop .left)
     (turning s .loop .go) (turning s .loop .depth) (frameAt (turning s .loop .stack) (topOf (turning s .loop .base) (turning s .loop .depth)))
-took s = s .step .ensures
+took s = s .step .ensures .0
 
 inside : (s : tie.After-step Inv-loop μ-loop) → Within (s .step .result .turn)
 inside s = rw (took s) (step-in _ _ _ _ _ (turning s .loop .inv .0))
@@ -85,7 +87,7 @@ left s =
     let l = turning s in
     let e : s .step .result .left ≡ aheadOf (l .loop .left) (words l) (openedOf (words l) (l .loop .go)) .left = ap (λ (z : Stepped). z .left) (took s) in
     let r = ahead-left (openedOf (words l) (l .loop .go) .stage) (l .loop .left) (words l) (openedOf (words l) (l .loop .go))
-    (s .before .before .before .before .loop-test .taken) in (omega (arith, r .0, e), omega (arith, r .1, e))
+    (s .before .before .before .before .before .loop-test .taken) in (omega (arith, r .0, e), omega (arith, r .1, e))
 
 -- the place of the frame is a place
 place : (s : tie.After-step Inv-loop μ-loop) → turning s .loop .base + s .step .result .turn .at < 297
@@ -101,7 +103,7 @@ no-refocusing-requires c κs = search needs
 
 loop-holds : tie.Need-loop-holds Inv-loop μ-loop
 loop-holds c =
-    let p = c .before .before .pre in (p .1, p .0, p .2, p .3, rw (c .no-refocusing .ensures) (omega arith), refl)
+    let p = c .before .before .pre in (p .1, p .0, p .2, p .3, rw (c .no-refocusing .ensures) (omega arith), refl, p .4)
 
 live-requires : tie.Need-live-requires Inv-loop μ-loop
 live-requires c κs = search needs
@@ -119,7 +121,7 @@ returns c =
       sym (last (words l) (roots l) (second l) (l .loop .before) (here l) (l .loop .more) (not-true _ (c .before .if2 .taken)))
           ∙ ap (afterOf (words l) (roots l) (l .loop .more) (second l) (l .loop .before)) (sym (stands (c .before .before)))
           ∙ whole l,
-      (l .loop .inv .4, l .loop .inv .0),
+      ((l .loop .inv .4, l .loop .inv .0), l .loop .inv .6),
     )
 
 full-requires : tie.Need-full-requires Inv-loop μ-loop
@@ -137,7 +139,7 @@ returns-2 c =
       sym (last-full (words l) (roots l) (second l) (l .loop .before) (here l) (l .loop .more) f)
           ∙ ap (afterOf (words l) (roots l) (l .loop .more) (second l) (l .loop .before)) (sym (stands (c .before .before .before .before)))
           ∙ whole l,
-      (l .loop .inv .4, l .loop .inv .0),
+      ((l .loop .inv .4, l .loop .inv .0), l .loop .inv .6),
     )
 
 loop-less : tie.Need-loop-less Inv-loop μ-loop
@@ -160,10 +162,18 @@ loop-again c =
           ∙ sym (another (words l) (roots l) (second l) (l .loop .before) (here l) (l .loop .more) (not-false _ (c .before .before .before .if2 .left)) f)
           ∙ ap (afterOf (words l) (roots l) (l .loop .more) (second l) (l .loop .before)) (sym (stands d))
           ∙ l .loop .inv .5,
+      l .loop .inv .6,
     )
 
 step-requires : tie.Need-step-requires Inv-loop μ-loop
-step-requires c κs = let l = c .before .before .before .before in (l .loop .inv .1, l .loop .inv .0, c .before .before .before .loop-test .taken)
+step-requires c κs =
+    let l = c .before .before .before .before .before in (
+      l .loop .inv .1,
+      l .loop .inv .0,
+      c .before .before .before .before .loop-test .taken,
+      l .loop
+          .inv .6,
+    )
 
 add-store : tie.Need-add-store Inv-loop μ-loop
 add-store c = record { fits = omega (arith, place (c .before .before .before .before .before .before)) }
@@ -186,8 +196,8 @@ loop-again-2 c =
     let d = l .loop .depth in
     let o = openedOf ws g in
     let k = l .loop .stack in
-    let h = s .before .before .before .before .loop-test .taken in
-    let a : liveOf g ≡ true = sym (s .before .before .before .live .ensures) ∙ not-false _ (s .before .before .if1 .left) in
+    let h = s .before .before .before .before .before .loop-test .taken in
+    let a : liveOf g ≡ true = sym (s .before .before .before .before .live .ensures) ∙ not-false _ (s .before .before .before .if1 .left) in
     let e : refocusOf (s .step .result .left - 1) ws (roots l) (l .loop .base) (c .before .before .if4 .stack) (s .step .result .turn .go)
     (s .step .result .turn .depth) ≡ rest l =
     ap (λ (k : Stack). refocusOf (s .step .result .left - 1) ws (roots l) (l .loop .base) k (s .step .result .turn .go) (s .step .result .turn .depth))
@@ -196,7 +206,16 @@ loop-again-2 c =
     ∙ sym (goes (aheadOf (l .loop .left) ws o .left) ws (roots l) (l .loop .base) k (alongOf (l .loop .left) ws g) d
     (ahead-left (o .stage) (l .loop .left) ws o h .0) (along-live (o .stage) g (aheadOf (l .loop .left) ws o .frame) a))
     ∙ sym (along-refocuses ws (roots l) (l .loop .base) k d (l .loop .left) g h a (o .stage) refl) in
-    let i = l .loop .inv in (inside s .0, i .1, i .2, i .3, i .4, ap (afterOf ws (roots l) (l .loop .more) (second l) (l .loop .before)) e ∙ i .5)
+    let i = l .loop .inv in (
+      inside s .0,
+      i .1,
+      i .2,
+      i .3,
+      i .4,
+      ap (afterOf ws (roots l) (l .loop .more) (second l) (l .loop .before)) e ∙ i .5,
+      s .step
+          .ensures .1,
+    )
 
 full-requires-2 : tie.Need-full-requires-2 Inv-loop μ-loop
 full-requires-2 c κs = search needs
@@ -216,7 +235,7 @@ returns-3 c =
           ∙ ap (afterOf (words l) (roots l) (l .loop .more) (second l) (l .loop .before))
           (sym (spent (l .loop .left) (words l) (roots l) (l .loop .base) (l .loop .stack) (l .loop .go) (l .loop .depth) z))
           ∙ whole l,
-      (l .loop .inv .4, l .loop .inv .0),
+      ((l .loop .inv .4, l .loop .inv .0), l .loop .inv .6),
     )
 
 pub refocus-spec : {M : Type 1} → statement M

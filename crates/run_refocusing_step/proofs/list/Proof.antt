@@ -34,19 +34,12 @@ returns c = rw (← c .before .before .before .before .before .before .word .ens
       eq-eqb _ _ (c .before .before .before .before .if1 .taken),
     ))
 
-root-requires : tie.Need-root-requires
-root-requires c κs = search needs
-
-ready-of-requires : tie.Need-ready-of-requires
-ready-of-requires c κs = search needs
-
-at-requires : tie.Need-at-requires
-at-requires c κs = search needs
+call-requires : tie.Need-call-requires
+call-requires c κs = search needs
 
 returns-2 : tie.Need-returns-2
 unfolding listOf listBy
-returns-2 c = rw (← c .before .before .before .before .before .word .ensures, ← c .before .before .before .before .tag .ensures)
-    (simp (c .at .ensures, c .before .ready-of .ensures, c .before .before .root .ensures, ne-eqb _ _ (c .before .before .before .if1 .left)))
+returns-2 c = rw (← c .before .before .before .word .ensures, ← c .before .before .tag .ensures) (simp (c .call .ensures, ne-eqb _ _ (c .before .if1 .left)))
 
 pub list-spec : {M : Type 1} → statement M
 list-spec =
@@ -59,7 +52,5 @@ list-spec =
     first-requires
     want-requires
     returns
-    root-requires
-    ready-of-requires
-    at-requires
+    call-requires
     returns-2)

@@ -36,9 +36,6 @@ back-condition-requires c κs = search needs
 opened-requires : tie.Need-opened-requires
 opened-requires c κs = search needs
 
-ahead-requires : tie.Need-ahead-requires
-ahead-requires c κs = search needs
-
 listed-requires : tie.Need-listed-requires
 listed-requires c κs = search needs
 
@@ -47,30 +44,32 @@ wanted-requires c κs = search needs
 
 returns : tie.Need-returns
 unfolding stepOf
-returns c = simp (c .back .ensures, c .before .frame-at .ensures, c .before .before .top .ensures .0, c .before .before .before .enum-told .given .1)
+returns c = (
+  simp (c .back .ensures, c .before .frame-at .ensures, c .before .before .top .ensures .0, c .before .before .before .enum-told .given .1),
+  c .before .before .before .before .before .pre .3,
+)
 
 returns-2 : tie.Need-returns-2
 unfolding stepOf
-returns-2 c = simp (
-  c .back-condition .ensures,
-  c .before .frame-at2 .ensures,
-  c .before .before .top2 .ensures .0,
-  c .before .before .before .enum-told2
-      .given .1,
+returns-2 c = (
+  simp (c .back-condition .ensures, c .before .frame-at2 .ensures, c .before .before .top2 .ensures .0, c .before .before .before .enum-told2 .given .1),
+  c .before .before .before .before .before .pre .3,
 )
 
 returns-3 : tie.Need-returns-3
 unfolding stepOf
 returns-3 c =
-    let a = c .before .before .before .before .before .before .args in
+    let a = c .before .before .before .before .before .args in
     let ws = a .words .now in
     let o = openedOf ws (a .go) in
     let x = frameAt (a .stack .now) (topOf (a .base) (a .depth)) in
     let h : stepOf ws (a .roots .now) (a .go) (a .depth) x ≡ downOf ws (a .roots .now) (a .go) (a .depth) =
-    step-other (a .go .stage) ws (a .roots .now) (a .go) (a .depth) x (c .before .before .before .before .before .match .keys3) in
-    simp (c .wanted .ensures, c .before .listed .ensures, c .before .before .before .ahead .ensures, c .before .before .before .before .opened .ensures)
-    (ap (λ (t : Turn). record { left = aheadOf (a .left) ws o .left; turn = t })
-    (along-step ws (a .roots .now) (a .go) o (aheadOf (a .left) ws o .frame) (a .depth) x h (o .stage) refl))
+    step-other (a .go .stage) ws (a .roots .now) (a .go) (a .depth) x (c .before .before .before .before .match .keys3) in (
+      simp (c .wanted .ensures, c .before .listed .ensures .0, c .before .before .before .opened .ensures)
+          (ap (λ (t : Turn). record { left = aheadOf (a .left) ws o .left; turn = t })
+          (along-step ws (a .roots .now) (a .go) o (aheadOf (a .left) ws o .frame) (a .depth) x h (o .stage) refl)),
+      c .before .listed .ensures .1,
+    )
 
 pub step-spec : {M : Type 1} → statement M
 step-spec =
@@ -85,7 +84,6 @@ step-spec =
     frame-at-requires-2
     back-condition-requires
     opened-requires
-    ahead-requires
     listed-requires
     wanted-requires
     returns

@@ -1,8 +1,9 @@
 -- The values that come next in a call's list, a step of refocusing to each: the machine that the code runs; no reader of the entries' promises needs it.
 -- Assumes
 -- nothing.
-use Prim.Native.Nat.{ℕ, zero, suc, _+_, _-_}
-use mathlib.Core.Bool.{cond}
+use Prim.Native.Nat.{ℕ, zero, suc, _+_, _-_, _*_, _^_, _≤_, _<_}
+use mathlib.Core.Path.{_≡_}
+use mathlib.Core.Bool.{Bool, true, cond}
 use mathlib.Core.List.{List}
 use lib.Dec.{eqb, ltb}
 use Rattle.run_frames.specs.declared.frame.Frame.{Frame}
@@ -14,6 +15,7 @@ use Rattle.run_frames.specs.inner.Going.{goList}
 use Rattle.plan_packed.specs.inner.Operands.{tagOf, firstOf, secondOf}
 use Rattle.run_term_words.specs.inner.Words.{wordAt, valueOf}
 use Rattle.run_refocusing_step.specs.declared.Gathered.{Gathered}
+use Rattle.run_refocusing_step.specs.declared.Through.{Through}
 use Rattle.run_refocusing_step.specs.declared.Stepped.{Stepped}
 use Rattle.run_refocusing_step.specs.inner.Down.{listOf, openedOf, stepOf}
 
@@ -62,6 +64,17 @@ intoBy stage.Truth ws rs g f = g
 
 abbrev pub intoOf : List ℕ → List ℕ → Refocusing → Frame → Refocusing
 intoOf ws rs g f = intoBy (g .stage) ws rs g f
+
+-- the same, and how many steps are left
+abbrev pub calledOf : List ℕ → List ℕ → ℕ → Frame → Through
+calledOf ws rs n f = record { left = gatheredOf (n - 1) ws f .left; go = listOf ws rs (gatheredOf (n - 1) ws f .frame) }
+
+abbrev pub goingOf : List ℕ → List ℕ → ℕ → Refocusing → Through
+goingOf ws rs n g = record { left = aheadOf n ws g .left; go = intoOf ws rs g (aheadOf n ws g .frame) }
+
+-- k values have room above those of a frame, and a step is left of n after one to each
+abbrev pub Fits : Frame → ℕ → ℕ → Bool → Type 0
+Fits f k n r = r ≡ true → (k < n) × (f .count + k ≤ 8) × (f .arguments < 2 ^ (f .count * 5))
 
 -- where refocusing stands once those values are taken, by the stage of its opened term, with the frame f that has them
 abbrev pub alongBy : Stage → Refocusing → Frame → Refocusing

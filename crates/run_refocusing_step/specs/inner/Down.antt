@@ -44,8 +44,12 @@ wantConditionOf ws f i d = wantConditionBy (truthOf ws i) f i d
 unfoldable pub rootAt : List ℕ → ℕ → ℕ
 rootAt rs m = getD rs (m % 32) 0
 
+-- the call of a frame's procedure with these arguments
+abbrev pub callOf : List ℕ → Frame → ℕ → Refocusing
+callOf rs f arguments = goAt (readyOf redex.Run (rootAt rs (f .member)) 0 0 arguments)
+
 unfoldable pub listBy : List ℕ → ℕ → Frame → Refocusing
-listBy rs w f = cond (eqb (tagOf w) 16) (goWant (restOf f (secondOf w)) (firstOf w)) (goAt (readyOf redex.Run (rootAt rs (f .member)) 0 0 (f .arguments)))
+listBy rs w f = cond (eqb (tagOf w) 16) (goWant (restOf f (secondOf w)) (firstOf w)) (callOf rs f (f .arguments))
 
 unfoldable pub listOf : List ℕ → List ℕ → Frame → Refocusing
 unfolding listBy

@@ -1,10 +1,6 @@
 -- `write` meets its contract. Assumes nothing.
 use native.Mathlib.Omega.{arith}
-use mathlib.Core.Path.{refl, ap, _∙_}
-use mathlib.Core.Logic.{inl, inr}
-use lib.ListN as L
-use Rattle.answers.specs.declared.Answered.the-variants.{Value}
-use Rattle.format.proofs.AreaLaws.{overwrite-length}
+use Rattle.show.proofs.Tokens.{room-text}
 use borrow.Author.Needs.{needs}
 use Rattle.show.proofs.write.Statement.{statement}
 use Rattle.show.proofs.write.Tie as tie
@@ -12,40 +8,68 @@ use Rattle.show.proofs.write.Tie as tie
 rows-requires : tie.Need-rows-requires
 rows-requires c κs = search needs
 
-measure-requires : tie.Need-measure-requires
-measure-requires c κs = let s = c .before .before .before .before .before .before in ((c .before .before .rows .ensures, s .pre .0), (s .pre .1, s .pre .2))
+all-requires : tie.Need-all-requires
+all-requires c κs = search needs
+
+lay-within-requires : tie.Need-lay-within-requires
+lay-within-requires c κs = search needs
+
+write-marked-requires : tie.Need-write-marked-requires
+write-marked-requires c κs = search needs
 
 same-length : tie.Need-same-length
 same-length c = search needs
-
-returns : tie.Need-returns
-returns c = inl (record { short = rw (c .before .before .before .measure .ensures .0) at (c .if1 .taken); kept = refl; refused = refl })
-
-lay-out-requires : tie.Need-lay-out-requires
-lay-out-requires c κs =
-    let s = c .before .before .before .before .before .before .before .before .before .before .before .before .before in
-    let m = c .before .before .before .before .before .before .measure .ensures in (
-      (c .before .before .before .before .before .before .before .before .before .rows .ensures, s .pre .0, m .1, s .pre .1),
-      (search (needs, s .pre .2), m .0, c .before .before .before .if1 .left),
-    )
 
 same-length-2 : tie.Need-same-length-2
 same-length-2 c = search needs
 
 same-length-3 : tie.Need-same-length-3
-same-length-3 c = ap L.length (c .before .before .lay-out .ensures) ∙ overwrite-length _ _
-    (rw (c .before .before .before .before .before .before .before .before .before .measure .ensures .0) at
-    (c .before .before .before .before .before .before .if1 .left))
+same-length-3 c = search needs
+
+returns : tie.Need-returns
+returns c = search needs
+
+sub-copy : tie.Need-sub-copy
+sub-copy c = search needs
+
+part-copy-start : tie.Need-part-copy-start
+part-copy-start c = search needs
+
+part-copy-end : tie.Need-part-copy-end
+part-copy-end c = search needs
+
+copy-requires : tie.Need-copy-requires
+copy-requires c κs = search needs
+
+same-length-4 : tie.Need-same-length-4
+same-length-4 c = search needs
+
+same-length-5 : tie.Need-same-length-5
+same-length-5 c = search needs
 
 returns-2 : tie.Need-returns-2
-returns-2 c =
-    let e = c .before .before .before .before .before .before .before .before .before .measure .ensures .0 in
-    inr (record {
-      long = rw e at (c .before .before .before .before .before .before .if1 .left);
-      text = c .before .before .lay-out .ensures;
-      answer = ap
-          Value e;
-    })
+returns-2 c = room-text (c .before .before .before .before .before .before .before .before .before .lay-within .ensures) (omega (
+  arith,
+  c .before .before
+      .before .before .before .before .if1 .left,
+)) (c .before .before .copy .ensures)
 
 pub write-spec : {M : Type 1} → statement M
-write-spec = tie.close (tie.spec rows-requires measure-requires same-length returns lay-out-requires same-length-2 same-length-3 returns-2)
+write-spec =
+    tie.close
+    (tie.spec
+    rows-requires
+    all-requires
+    lay-within-requires
+    write-marked-requires
+    same-length
+    same-length-2
+    same-length-3
+    returns
+    sub-copy
+    part-copy-start
+    part-copy-end
+    copy-requires
+    same-length-4
+    same-length-5
+    returns-2)

@@ -9,17 +9,21 @@ use Rattle.plan_notation.specs.Layout.{laidOut}
 use Rattle.answers.specs.declared.Answered.{Answered}
 use Rattle.answers.specs.declared.Answered.the-variants.{Value, Refused}
 
--- the area is too short for the text of these tokens
-pub record TooShort (ts area area′ : List ℕ) (r : Answered) : Type 0 where
-  pub short : length area < length (laidOut ts)
+-- the area is too short for these bytes
+pub record TooShort (bytes area area′ : List ℕ) (r : Answered) : Type 0 where
+  pub short : length area < length bytes
   pub kept : area′ ≡ area
   pub refused : r ≡ Refused 25 0
 
--- or it begins with it
-pub record LaidOut (ts area area′ : List ℕ) (r : Answered) : Type 0 where
-  pub long : length (laidOut ts) ≤ length area
-  pub text : area′ ≡ overwrite (laidOut ts) area
-  pub answer : r ≡ Value (length (laidOut ts))
+-- or it begins with them
+pub record Overwritten (bytes area area′ : List ℕ) (r : Answered) : Type 0 where
+  pub long : length bytes ≤ length area
+  pub text : area′ ≡ overwrite bytes area
+  pub answer : r ≡ Value (length bytes)
 
+abbrev pub BytesWritten : List ℕ → List ℕ → List ℕ → Answered → Type 0
+BytesWritten bytes area area′ r = TooShort bytes area area′ r ⊎ Overwritten bytes area area′ r
+
+-- the same of the text of these tokens
 abbrev pub TextWritten : List ℕ → List ℕ → List ℕ → Answered → Type 0
-TextWritten ts area area′ r = TooShort ts area area′ r ⊎ LaidOut ts area area′ r
+TextWritten ts = BytesWritten (laidOut ts)

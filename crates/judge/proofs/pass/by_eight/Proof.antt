@@ -1,5 +1,6 @@
 -- `judge::pass::by_eight` meets its contract. Assumes nothing.
 use Rattle.judge.proofs.Going.{clear-rows}
+use mathlib.Core.Logic.{inl}
 use native.Mathlib.Omega.{arith}
 use borrow.Author.Needs.{needs}
 use Rattle.judge.proofs.pass.by_eight.Statement.{statement}
@@ -9,7 +10,7 @@ slice-aggregate-pass : tie.Need-slice-aggregate-pass
 slice-aggregate-pass c = search needs
 
 pass-requires : tie.Need-pass-requires
-pass-requires c κs = (c .before .before .pre, clear-rows 8 35 (omega arith) (omega arith))
+pass-requires c κs = (c .before .before .pre, clear-rows 8 35 (inl (omega arith)) (omega arith))
 
 returns : tie.Need-returns
 returns c = search needs

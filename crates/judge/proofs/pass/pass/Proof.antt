@@ -1,5 +1,6 @@
 -- `judge::pass::pass` meets its contract. Assumes nothing.
 use Rattle.format.specs.Version.{versionOf}
+use Rattle.log_places.specs.inner.Places.{numbersOf, givenOf}
 use Rattle.log_rows.specs.inner.Rows.{orderingKind}
 use Rattle.judge.specs.inner.Found.{Finds, finds-nothing}
 use Rattle.judge.proofs.Going.{Going, going-start, none-named}
@@ -16,7 +17,8 @@ use Rattle.judge.proofs.pass.pass.Tie as tie
 abbrev Inv-loop : tie.InvT-loop
 Inv-loop log version places table₀ count read write numbers₀ given₀ index₀ table numbers given index =
     (index ≤ count) × (count ≡ length log / 3) × (read ≡ orderingKind (versionOf version) 4) × (write ≡ orderingKind (versionOf version) 5)
-    × (length table ≡ length table₀) × Going (versionOf version) log places index numbers given table
+    × (length table ≡ length table₀) × (length numbers ≡ 1024)
+    × Going (versionOf version) log places index (numbersOf places numbers) (givenOf places given) table
 
 abbrev μ-loop : tie.MeasureT-loop
 μ-loop log version places table₀ count read write numbers₀ given₀ index₀ table numbers given index = count - index
@@ -27,8 +29,9 @@ module _ (p : tie.After-step-arg Inv-loop μ-loop) where
   start = p .before .before .before .before .before .before .before .before .before .before .before
 
   here : Here (versionOf (start .args .version)) (start .args .log .now) (start .args .places) (p .before .before .before .before .loop .index)
-      (p .before .before .before .before .loop .numbers) (p .before .before .before .before .loop .given) (p .before .before .before .before .loop .table)
-  here = record { accepted-log = start .pre .0; below = omega arith; going = p .before .before .before .before .loop .inv .5 }
+      (numbersOf (start .args .places) (p .before .before .before .before .loop .numbers))
+      (givenOf (start .args .places) (p .before .before .before .before .loop .given)) (p .before .before .before .before .loop .table)
+  here = record { accepted-log = start .pre .0; below = omega arith; going = p .before .before .before .before .loop .inv .6 }
 
 start-requires : tie.Need-start-requires Inv-loop μ-loop
 start-requires c κs = search needs
@@ -48,6 +51,7 @@ loop-holds c =
       c .before .ordering .ensures,
       c .ordering2 .ensures,
       refl,
+      refl,
       going-start (versionOf (s .args .version)) (s .args .places) _ _ (s .pre .1) (from .start .ensures) (s .args .log .now),
     )
 
@@ -55,7 +59,7 @@ slice-aggregate-step : tie.Need-slice-aggregate-step Inv-loop μ-loop
 slice-aggregate-step c = search needs
 
 step-requires : tie.Need-step-requires Inv-loop μ-loop
-step-requires c κs = ready (here c)
+step-requires c κs = ready (here c) _ (c .before .before .before .before .loop .inv .5) refl
 
 ended-requires : tie.Need-ended-requires Inv-loop μ-loop
 ended-requires c κs = search needs
@@ -89,6 +93,7 @@ loop-again c =
       l .inv .2,
       l .inv .3,
       step .step .kept .1 .1 .1 .1 .1 .1 .1 .0 ∙ l .inv .4,
+      step .step .kept .1 .1 .1 .1 .1 .0 ∙ l .inv .5,
       next-by (here (step .before)) (l .inv .2) (l .inv .3) (step .step .ensures) (sym (c .before .ended .ensures) ∙ c .if1 .left),
     )
 
@@ -96,7 +101,7 @@ same-length-2 : tie.Need-same-length-2 Inv-loop μ-loop
 same-length-2 c = search needs
 
 returns-2 : tie.Need-returns-2 Inv-loop μ-loop
-returns-2 c = finds-nothing (none-named (c .before .loop .inv .5) (omega arith))
+returns-2 c = finds-nothing (none-named (c .before .loop .inv .6) (omega arith))
 
 pub pass-spec : {M : Type 1} → statement M
 pass-spec =

@@ -25,10 +25,13 @@ module _ (span : ℕ) where
   callees = (rest-of-below span, rest-of.Post)
 
   loop-holds : lts.Need-loop-holds callees (closed-expression-at span) Post Inv μ
-  loop-holds c = (omega arith, c .pre .1 .1, refl)
+  loop-holds c = (omega arith, c .before .pre .1 .1, refl)
 
   rest-of-requires : lts.Need-rest-of-requires callees (closed-expression-at span) Post Inv μ
-  rest-of-requires c κs = let s = c .before in let l = c .loop in (here span (s .args .from) (l .term) (s .pre .0) (l .inv .0), (s .pre .1 .0, l .inv .1))
+  rest-of-requires c κs = let s = c .before .before in let l = c .loop in (
+    here span (s .args .from) (l .term) (s .pre .0) (l .inv .0),
+    (s .pre .1 .0, l .inv .1),
+  )
 
   enum-told : lts.Need-enum-told callees (closed-expression-at span) Post Inv μ
   enum-told c = search needs

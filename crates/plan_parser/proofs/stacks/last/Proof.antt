@@ -13,11 +13,18 @@ sub-result c = search needs
 mul-result : tie.Need-mul-result
 mul-result c = search needs
 
-element-copy-out-result : tie.Need-element-copy-out-result
-element-copy-out-result c = search needs
+shared-slice-read-result : tie.Need-shared-slice-read-result
+shared-slice-read-result c = search needs
 
 returns-2 : tie.Need-returns-2
 returns-2 c = last-some _ _ (c .before .if1 .left)
 
 pub last-spec : {M : Type 1} → statement M
-last-spec = tie.close (tie.spec returns sub-result mul-result element-copy-out-result returns-2)
+last-spec =
+    tie.close
+    (tie.spec
+    returns
+    sub-result
+    mul-result
+    shared-slice-read-result
+    returns-2)

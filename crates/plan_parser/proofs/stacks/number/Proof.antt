@@ -11,4 +11,8 @@ returns-2 : tie.Need-returns-2
 returns-2 c = rw (le-ltb _ _ (c .if1 .left))
 
 pub number-spec : {M : Type 1} → statement M
-number-spec = tie.close (tie.spec returns returns-2)
+number-spec =
+    tie.close
+    (tie.spec
+    returns
+    returns-2)

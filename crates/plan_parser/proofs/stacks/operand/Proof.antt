@@ -13,8 +13,8 @@ sub-value c = search needs
 mul-value : tie.Need-mul-value
 mul-value c = search needs
 
-element-copy-out-value : tie.Need-element-copy-out-value
-element-copy-out-value c = search needs
+shared-slice-read-value : tie.Need-shared-slice-read-value
+shared-slice-read-value c = search needs
 
 returns-2 : tie.Need-returns-2
 returns-2 c = operand-term _ _ _ (c .before .before .if1 .left) (c .if2 .taken)
@@ -24,4 +24,11 @@ returns-3 c = operand-number _ _ _ (c .before .before .if1 .left) (c .if2 .left)
 
 pub operand-spec : {M : Type 1} → statement M
 operand-spec =
-    tie.close (tie.spec returns sub-value mul-value element-copy-out-value returns-2 returns-3)
+    tie.close
+    (tie.spec
+    returns
+    sub-value
+    mul-value
+    shared-slice-read-value
+    returns-2
+    returns-3)

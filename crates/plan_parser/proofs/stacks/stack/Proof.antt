@@ -6,7 +6,7 @@ use Rattle.plan_parser.proofs.stacks.stack.Statement.{statement}
 use Rattle.plan_parser.proofs.stacks.stack.Tie as tie
 
 returns : tie.Need-returns
-returns c = (stacks-none _ _ _ (c .before .pre .2) (c .if1 .taken), search needs, search needs)
+returns c = (stacks-none _ _ _ (c .if1 .taken), search needs, search needs)
 
 cast-goals : tie.Need-cast-goals
 cast-goals c = search needs
@@ -14,15 +14,26 @@ cast-goals c = search needs
 mul-goals : tie.Need-mul-goals
 mul-goals c = search needs
 
-element-write-goals : tie.Need-element-write-goals
-element-write-goals c = search needs
+slice-write-goals : tie.Need-slice-write-goals
+slice-write-goals c = search needs
 
 add-result : tie.Need-add-result
 add-result c = search needs
 
 returns-2 : tie.Need-returns-2
-returns-2 c = (stacks-one _ _ _ _ (c .before .pre .2) (c .before .pre .0) (c .if1 .left) (search needs), search needs, omega (arith, c .if1 .left))
+returns-2 c = (stacks-one _ _ _ _ (c .before .pre .0) (c .if1 .left) (search needs), search needs, omega (arith, c .if1 .left))
+
+same-length : tie.Need-same-length
+same-length c = search needs
 
 pub stack-spec : {M : Type 1} → statement M
 stack-spec =
-    tie.close (tie.spec returns cast-goals mul-goals element-write-goals add-result returns-2)
+    tie.close
+    (tie.spec
+    returns
+    cast-goals
+    mul-goals
+    slice-write-goals
+    add-result
+    same-length
+    returns-2)

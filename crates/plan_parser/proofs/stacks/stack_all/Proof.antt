@@ -16,10 +16,21 @@ stack-digits-requires c κs = search needs
 
 returns : tie.Need-returns
 returns c = (
-  stacks-twice _ _ _ _ _ _ _ _ (stacks-twice _ _ _ _ _ _ _ _ (c .before .before .before .before .stack .ensures .0)
-      (c .before .before .stack2 .ensures .0)) (c .stack-digits .ensures .0),
+  stacks-twice _ _ _ _ _ _ _ _ (stacks-twice _ _ _ _ _ _ _ _ (c .before .before .before .before .before .before .before .before .before .before .stack
+      .ensures .0)
+      (c .before .before .before .before .before .before .stack2 .ensures .0)) (c .before .before .stack-digits .ensures .0),
   (search needs, search needs),
 )
 
+same-length : tie.Need-same-length
+same-length c = search needs
+
 pub stack-all-spec : {M : Type 1} → statement M
-stack-all-spec = tie.close (tie.spec stack-requires stack-requires-2 stack-digits-requires returns)
+stack-all-spec =
+    tie.close
+    (tie.spec
+    stack-requires
+    stack-requires-2
+    stack-digits-requires
+    same-length
+    returns)

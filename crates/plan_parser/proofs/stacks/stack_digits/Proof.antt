@@ -28,26 +28,35 @@ returns : tie.Need-returns
 unfolding unpacked
 returns c = (
   stacks-twice _ _ _ _ _ _ _ _ (stacks-twice _ _ _ _ _ _ _ _ (stacks-twice _ _ _ _ _ _ _ _
-      (stacks-twice _ _ _ _ _ _ _ _ (stacks-twice _ _ _ _ _ _ _ _ (c .before .before .before .before .before .before .before .before .before .before .stack
-      .ensures .0) (c .before .before .before .before .before .before .before .before .stack2 .ensures .0))
-      (c .before .before .before .before .before .before .stack3 .ensures .0)) (c .before .before .before .before .stack4 .ensures .0))
-      (c .before .before .stack5 .ensures .0)) (c .stack6 .ensures .0),
+      (stacks-twice _ _ _ _ _ _ _ _ (stacks-twice _ _ _ _ _ _ _ _ (c .before .before .before .before .before .before .before .before .before .before
+      .before .before .before .before .before .before .before .before .before .before .before .before .stack
+      .ensures .0) (c .before .before .before .before .before .before .before .before .before .before .before .before .before .before .before .before
+      .before .before .stack2 .ensures .0))
+      (c .before .before .before .before .before .before .before .before .before .before .before .before .before .before .stack3 .ensures .0)) (c .before
+      .before .before .before .before .before .before .before .before .before .stack4 .ensures .0))
+      (c .before .before .before .before .before .before .stack5 .ensures .0)) (c .before .before .stack6 .ensures .0),
   omega (
     arith,
-    c .before .before .before .before .before .before .before .before .before .before .stack .ensures .1,
-    c .before .before .before .before
-        .before .before .before .before .stack2 .ensures .1,
-    c .before .before .before .before .before .before .stack3 .ensures .1,
-    c .before .before .before
-        .before .stack4 .ensures .1,
-    c .before .before .stack5 .ensures .1,
-    c .stack6 .ensures .1,
+    c .before .before .before .before .before .before .before .before .before .before .before .before .before .before .before .before .before .before
+        .before .before .before .before .stack .ensures .1,
+    c .before .before .before .before .before .before .before .before .before .before .before .before .before .before .before .before .before .before
+        .stack2 .ensures .1,
+    c .before .before .before .before .before .before .before .before .before .before .before .before .before .before .stack3 .ensures .1,
+    c .before .before .before .before .before .before .before .before .before .before .stack4 .ensures .1,
+    c .before .before .before .before .before .before .stack5 .ensures .1,
+    c .before .before .stack6 .ensures .1,
   ),
-  six-few _ _ _ _ _ _ _ _ (c .before .before .before .before .before .before .before .before .before .before .stack .ensures .2)
-      (c .before .before .before .before .before .before .before .before .stack2 .ensures .2)
-      (c .before .before .before .before .before .before .stack3 .ensures .2) (c .before .before .before .before .stack4 .ensures .2)
-      (c .before .before .stack5 .ensures .2) (c .stack6 .ensures .2),
+  six-few _ _ _ _ _ _ _ _ (c .before .before .before .before .before .before .before .before .before .before .before .before .before .before .before
+      .before .before .before .before .before .before .before .stack .ensures .2)
+      (c .before .before .before .before .before .before .before .before .before .before .before .before .before .before .before .before .before .before
+      .stack2 .ensures .2)
+      (c .before .before .before .before .before .before .before .before .before .before .before .before .before .before .stack3 .ensures .2) (c .before
+      .before .before .before .before .before .before .before .before .before .stack4 .ensures .2)
+      (c .before .before .before .before .before .before .stack5 .ensures .2) (c .before .before .stack6 .ensures .2),
 )
+
+same-length : tie.Need-same-length
+same-length c = search needs
 
 pub stack-digits-spec : {M : Type 1} → statement M
 stack-digits-spec =
@@ -59,4 +68,5 @@ stack-digits-spec =
     stack-requires-4
     stack-requires-5
     stack-requires-6
+    same-length
     returns)

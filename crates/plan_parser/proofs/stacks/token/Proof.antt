@@ -22,4 +22,10 @@ returns-2 c =
     (c .wide .ensures .0 ∙ any-default (c .before .before .before .before .args .tokens .now) _ 0 69 h, omega arith)
 
 pub token-spec : {M : Type 1} → statement M
-token-spec = tie.close (tie.spec returns shared-slice-read-wide wide-requires returns-2)
+token-spec =
+    tie.close
+    (tie.spec
+    returns
+    shared-slice-read-wide
+    wide-requires
+    returns-2)

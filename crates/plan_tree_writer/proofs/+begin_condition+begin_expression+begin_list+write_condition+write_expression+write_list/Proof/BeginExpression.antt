@@ -24,6 +24,7 @@ use Rattle.plan_tree_writer.proofs.pair_second.Reads as pair-second
 use Rattle.plan_packing.proofs.put.Reads as put
 use Rattle.plan_operands.proofs.second.Reads as second
 use Rattle.plan_operands.proofs.tag.Reads as tag
+use Rattle.plan_words.proofs.word.Reads as word
 use Rattle.plan_operands.proofs.third.Reads as third
 use Rattle.plan_packing.proofs.three.Reads as three
 use Rattle.plan_packing.proofs.two.Reads as two
@@ -42,6 +43,8 @@ use Rattle.plan_tree_writer.proofs.+begin_condition+begin_expression+be
 module _ (span : ℕ) where
   abbrev callees : lts.Claims
   callees = (
+    word.Asked,
+    word.Learnt,
     tag.Asked,
     tag.Learnt,
     has-one.Asked,
@@ -80,35 +83,34 @@ module _ (span : ℕ) where
     leaf.Learnt,
   )
 
-  mul-word : lts.Need-mul-word callees (begin-expression-at span) Post
-  mul-word c = let h = c .before .pre .1 .0 .1 in omega arith
-
-  element-copy-out-word : lts.Need-element-copy-out-word callees (begin-expression-at span) Post
-  element-copy-out-word c = c .before .pre .1 .0 .1
+  word-requires : lts.Need-word-requires callees (begin-expression-at span) Post
+  word-requires c κs = tt
 
   tag-requires : lts.Need-tag-requires callees (begin-expression-at span) Post
   tag-requires c κs = tt
 
   mul-place : lts.Need-mul-place callees (begin-expression-at span) Post
-  mul-place c = let r = own-number (c .before .before .before .pre .1 .1) in omega arith
+  mul-place c = let r = own-number (c .before .before .before .before .pre .1 .1) in omega arith
 
   add-place : lts.Need-add-place callees (begin-expression-at span) Post
-  add-place c = let r = put-room (c .before .before .before .pre .1 .1) in omega arith
+  add-place c = let r = put-room (c .before .before .before .before .pre .1 .1) in omega arith
 
   add-next : lts.Need-add-next callees (begin-expression-at span) Post
-  add-next c = let r = own-number (c .before .before .before .pre .1 .1) in omega arith
+  add-next c = let r = own-number (c .before .before .before .before .pre .1 .1) in omega arith
 
   has-one-requires : lts.Need-has-one-requires callees (begin-expression-at span) Post
   has-one-requires c κs = tt
 
   one-requires : lts.Need-one-requires callees (begin-expression-at span) Post
   one-requires c κs =
-      let s = c .before .before .before .before .before .before in
-      let k = found singles _ _ (c .before .before .before .tag .ensures) (c .before .before .has-one .ensures) (c .before .if1 .taken) in
-      (single-tag _ k, one-small (s .pre .1 .1) (one-at _ (s .pre .1 .0 .0) _ k .one-shape))
+      let v = c .before .before .before .before in
+      let s = v .before .before .before in
+      let w = v .word .ensures in
+      let k = found singles _ _ (rw (w) at (c .before .before .before .tag .ensures)) (c .before .before .has-one .ensures) (c .before .if1 .taken) in
+      rw (w) (single-tag _ k, one-small (s .pre .1 .1) (one-at _ (s .pre .1 .0 .0) _ k .one-shape))
 
   put-requires : lts.Need-put-requires callees (begin-expression-at span) Post
-  put-requires c κs = put-room (c .before .before .before .before .before .before .before .pre .1 .1)
+  put-requires c κs = put-room (c .before .before .before .before .before .before .before .before .pre .1 .1)
 
   first-requires : lts.Need-first-requires callees (begin-expression-at span) Post
   first-requires c κs = tt
@@ -118,13 +120,15 @@ module _ (span : ℕ) where
 
   returns : lts.Need-returns callees (begin-expression-at span) Post
   returns c =
-      let s = c .before .before .before .before .before .before .before .before .before .before .before in
+      let v = c .before .before .before .before .before .before .before .before .before in
+      let s = v .before .before .before in
+      let w = v .word .ensures in
       let a = one-at _ (s .pre .1 .0 .0) _
-      (found singles _ _ (c .before .before .before .before .before .before .before .before .tag .ensures)
+      (found singles _ _ (rw (w) at (c .before .before .before .before .before .before .before .before .tag .ensures))
       (c .before .before .before .before .before .before .before .has-one .ensures) (c .before .before .before .before .before .before .if1 .taken)) in
-      rw (c .first .ensures)
+      rw (c .first .ensures, w)
       (one-going _ _ _ _ _ (add-one _) _ _ (a .one-shape) (a .one-later) (a .one-inside)
-      (rw (c .before .before .before .before .one .ensures) at (c .before .before .before .put .ensures)))
+      (rw (c .before .before .before .before .one .ensures, w) at (c .before .before .before .put .ensures)))
 
   has-two-requires : lts.Need-has-two-requires callees (begin-expression-at span) Post
   has-two-requires c κs = tt
@@ -134,27 +138,32 @@ module _ (span : ℕ) where
 
   write-expression-requires : lts.Need-write-expression-requires callees (begin-expression-at span) Post
   write-expression-requires c κs =
-      let s = c .before .before .before .before .before .before .before .before .before in
+      let v = c .before .before .before .before .before .before .before in
+      let s = v .before .before .before in
+      let w = v .word .ensures in
       let a = two-at _ (s .pre .1 .0 .0) _
-      (found pairs _ _ (c .before .before .before .before .before .before .tag .ensures) (c .before .before .before .has-two .ensures)
+      (found pairs _ _ (rw (w) at (c .before .before .before .before .before .before .tag .ensures)) (c .before .before .before .has-two .ensures)
       (c .before .before .if2 .taken)) in
-      rw (c .before .pair-first .ensures) (
+      rw (c .before .pair-first .ensures, w) (
         later _ _ _ (s .pre .0) (a .first-later) (a .first-inside),
         ((s .pre .1 .0 .0, a .first-inside), two-first (s .pre .1 .1) (a .two-shape)),
       )
 
   two-requires : lts.Need-two-requires callees (begin-expression-at span) Post
   two-requires c κs =
-      let s = c .before .before .before .before .before .before .before .before .before .before .before .before .before in
-      let k = found pairs _ _ (c .before .before .before .before .before .before .before .before .before .before .tag .ensures)
+      let v = c .before .before .before .before .before .before .before .before .before .before .before in
+      let s = v .before .before .before in
+      let w = v .word .ensures in
+      let k = found pairs _ _ (rw (w) at (c .before .before .before .before .before .before .before .before .before .before .tag .ensures))
       (c .before .before .before .before .before .before .before .has-two .ensures) (c .before .before .before .before .before .before .if2 .taken) in
       let a = two-at _ (s .pre .1 .0 .0) _ k in
-      let f = rw (c .before .before .before .before .before .pair-first .ensures) at (c .before .before .before .write-expression .ensures) in
-      (pair-tag _ k, two-small (s .pre .1 .1) (a .two-shape) f .0, two-small (s .pre .1 .1) (a .two-shape) f .1)
+      let f = rw (c .before .before .before .before .before .pair-first .ensures, w) at (c .before .before .before .write-expression .ensures) in
+      rw (w) (pair-tag _ k, two-small (s .pre .1 .1) (a .two-shape) f .0, two-small (s .pre .1 .1) (a .two-shape) f .1)
 
   put-requires-2 : lts.Need-put-requires-2 callees (begin-expression-at span) Post
   put-requires-2 c κs = let k = tree-keeps (c .before .before .before .before .write-expression .ensures) in let r =
-      put-room (c .before .before .before .before .before .before .before .before .before .before .before .before .before .before .pre .1 .1) in omega arith
+      put-room (c .before .before .before .before .before .before .before .before .before .before .before .before .before .before
+      .before .pre .1 .1) in omega arith
 
   pair-second-requires : lts.Need-pair-second-requires callees (begin-expression-at span) Post
   pair-second-requires c κs = tt
@@ -165,26 +174,30 @@ module _ (span : ℕ) where
 
   returns-2 : lts.Need-returns-2 callees (begin-expression-at span) Post
   returns-2 c =
-      let s = c .before .before .before .before .before .before .before .before .before .before .before .before .before .before .before .before .before
-      .before in
+      let v = c .before .before .before .before .before .before .before .before .before .before .before .before .before .before .before .before in
+      let s = v .before .before .before in
+      let w = v .word .ensures in
       let a = two-at _ (s .pre .1 .0 .0) _
-      (found pairs _ _ (c .before .before .before .before .before .before .before .before .before .before .before .before .before .before
-      .before .tag .ensures) (c .before .before .before .before .before .before .before .before .before .before .before .before .has-two .ensures)
+      (found pairs _ _ (rw (w) at (c .before .before .before .before .before .before .before .before .before .before .before .before .before
+      .before .before .tag .ensures)) (c .before .before .before .before .before .before .before .before .before .before .before .before .has-two .ensures)
       (c .before .before .before .before .before .before .before .before .before .before .before .if2 .taken)) in
-      let f = rw (c .before .before .before .before .before .before .before .before .before .before .pair-first .ensures) at
+      let f = rw (c .before .before .before .before .before .before .before .before .before .before .pair-first .ensures, w) at
       (c .before .before .before .before .before .before .before .before .write-expression .ensures) in
-      rw (c .pair-second .ensures)
+      rw (c .pair-second .ensures, w)
       (two-going _ _ _ _ _ (add-one _) _ _ f _ (a .two-shape) (a .second-later) (a .second-inside)
-      (rw (c .before .before .before .before .two .ensures) at (c .before .before .before .put2 .ensures)))
+      (rw (c .before .before .before .before .two .ensures, w) at (c .before .before .before .put2 .ensures)))
 
   first-requires-2 : lts.Need-first-requires-2 callees (begin-expression-at span) Post
   first-requires-2 c κs = tt
 
   write-condition-requires : lts.Need-write-condition-requires callees (begin-expression-at span) Post
   write-condition-requires c κs =
-      let s = c .before .before .before .before .before .before .before .before .before .before in
-      let a = if-at _ (s .pre .1 .0 .0) _ (sym (c .before .before .before .before .before .before .before .tag .ensures) ∙ c .before .before .match .keys1) in
-      rw (c .before .first2 .ensures) (
+      let v = c .before .before .before .before .before .before .before .before in
+      let s = v .before .before .before in
+      let w = v .word .ensures in
+      let a = if-at _ (s .pre .1 .0 .0) _ (rw (w) at (sym (c .before .before .before .before .before .before .before .tag .ensures)
+      ∙ c .before .before .match .keys1)) in
+      rw (c .before .first2 .ensures, w) (
         later _ _ _ (s .pre .0) (a .laters .0) (a .insides .0),
         ((s .pre .1 .0 .0, a .insides .0), three-first (s .pre .1 .1) (a .three-shape)),
       )
@@ -194,33 +207,36 @@ module _ (span : ℕ) where
 
   write-expression-requires-2 : lts.Need-write-expression-requires-2 callees (begin-expression-at span) Post
   write-expression-requires-2 c κs =
-      let s = c .before .before .before .before .before .before .before .before .before .before .before .before .before .before .before in
+      let v = c .before .before .before .before .before .before .before .before .before .before .before .before .before in
+      let s = v .before .before .before in
+      let w = v .word .ensures in
       let a = if-at _ (s .pre .1 .0 .0) _
-      (sym (c .before .before .before .before .before .before .before .before .before .before .before .before .tag .ensures)
-      ∙ c .before .before .before .before .before .before .before .match .keys1) in
-      let f = rw (c .before .before .before .before .before .before .first2 .ensures) at (c .before .before .before .before .write-condition .ensures) in
-      rw (c .before .second .ensures) (
+      (rw (w) at (sym (c .before .before .before .before .before .before .before .before .before .before .before .before .tag .ensures)
+      ∙ c .before .before .before .before .before .before .before .match .keys1)) in
+      let f = rw (c .before .before .before .before .before .before .first2 .ensures, w) at (c .before .before .before .before .write-condition .ensures) in
+      rw (c .before .second .ensures, w) (
         later _ _ _ (s .pre .0) (a .laters .1) (a .insides .1),
         ((s .pre .1 .0 .0, a .insides .1), three-second (s .pre .1 .1) (a .three-shape) f),
       )
 
   three-requires : lts.Need-three-requires callees (begin-expression-at span) Post
   three-requires c κs =
-      let s = c .before .before .before .before .before .before .before .before .before .before .before .before .before .before .before .before .before
-      .before .before in
+      let v = c .before .before .before .before .before .before .before .before .before .before .before .before .before .before .before .before .before in
+      let s = v .before .before .before in
+      let w = v .word .ensures in
       let a = if-at _ (s .pre .1 .0 .0) _
-      (sym (c .before .before .before .before .before .before .before .before .before .before .before .before .before .before .before
-      .before .tag .ensures) ∙ c .before .before .before .before .before .before .before .before .before .before .before .match .keys1) in
-      let f = rw (c .before .before .before .before .before .before .before .before .before .before .first2 .ensures) at
+      (rw (w) at (sym (c .before .before .before .before .before .before .before .before .before .before .before .before .before .before
+      .before .before .tag .ensures) ∙ c .before .before .before .before .before .before .before .before .before .before .before .match .keys1)) in
+      let f = rw (c .before .before .before .before .before .before .before .before .before .before .first2 .ensures, w) at
       (c .before .before .before .before .before .before .before .before .write-condition .ensures) in
-      let g = rw (c .before .before .before .before .before .second .ensures) at (c .before .before .before .write-expression2 .ensures) in
+      let g = rw (c .before .before .before .before .before .second .ensures, w) at (c .before .before .before .write-expression2 .ensures) in
       three-small (s .pre .1 .1) (a .three-shape) f g
 
   put-requires-3 : lts.Need-put-requires-3 callees (begin-expression-at span) Post
   put-requires-3 c κs = let k = tree-keeps (c .before .before .before .before .before .before .before .before .before .write-condition .ensures) in let i =
       tree-keeps (c .before .before .before .before .write-expression2 .ensures) in let r =
-      put-room (c .before .before .before .before .before .before .before .before .before .before .before .before .before .before .before .before .before
-      .before .before .before .pre .1 .1) in omega arith
+      put-room (c .before .before .before .before .before .before .before .before .before .before .before .before .before .before .before
+      .before .before .before .before .before .before .pre .1 .1) in omega arith
 
   third-requires : lts.Need-third-requires callees (begin-expression-at span) Post
   third-requires c κs = tt
@@ -230,26 +246,31 @@ module _ (span : ℕ) where
 
   write-condition-requires-2 : lts.Need-write-condition-requires-2 callees (begin-expression-at span) Post
   write-condition-requires-2 c κs =
-      let s = c .before .before .before .before .before .before .before .before .before .before in
-      let a = while-at _ (s .pre .1 .0 .0) _ (sym (c .before .before .before .before .before .before .before .tag .ensures)
-      ∙ c .before .before .match .keys2) in
-      rw (c .before .first3 .ensures) (
+      let v = c .before .before .before .before .before .before .before .before in
+      let s = v .before .before .before in
+      let w = v .word .ensures in
+      let a = while-at _ (s .pre .1 .0 .0) _ (rw (w) at (sym (c .before .before .before .before .before .before .before .tag .ensures)
+      ∙ c .before .before .match .keys2)) in
+      rw (c .before .first3 .ensures, w) (
         later _ _ _ (s .pre .0) (a .first-later) (a .first-inside),
         ((s .pre .1 .0 .0, a .first-inside), two-first (s .pre .1 .1) (a .two-shape)),
       )
 
   two-requires-2 : lts.Need-two-requires-2 callees (begin-expression-at span) Post
   two-requires-2 c κs =
-      let s = c .before .before .before .before .before .before .before .before .before .before .before .before .before .before in
-      let e = sym (c .before .before .before .before .before .before .before .before .before .before .before .tag .ensures)
-      ∙ c .before .before .before .before .before .before .match .keys2 in
+      let v = c .before .before .before .before .before .before .before .before .before .before .before .before in
+      let s = v .before .before .before in
+      let w = v .word .ensures in
+      let e = rw (w) at (sym (c .before .before .before .before .before .before .before .before .before .before .before .tag .ensures)
+      ∙ c .before .before .before .before .before .before .match .keys2) in
       let a = while-at _ (s .pre .1 .0 .0) _ e in
-      let f = rw (c .before .before .before .before .before .first3 .ensures) at (c .before .before .before .write-condition2 .ensures) in
-      (omega arith, two-small (s .pre .1 .1) (a .two-shape) f .0, two-small (s .pre .1 .1) (a .two-shape) f .1)
+      let f = rw (c .before .before .before .before .before .first3 .ensures, w) at (c .before .before .before .write-condition2 .ensures) in
+      rw (w) (omega arith, two-small (s .pre .1 .1) (a .two-shape) f .0, two-small (s .pre .1 .1) (a .two-shape) f .1)
 
   put-requires-4 : lts.Need-put-requires-4 callees (begin-expression-at span) Post
   put-requires-4 c κs = let k = tree-keeps (c .before .before .before .before .write-condition2 .ensures) in let r =
-      put-room (c .before .before .before .before .before .before .before .before .before .before .before .before .before .before .before .pre .1 .1) in
+      put-room (c .before .before .before .before .before .before .before .before .before .before .before .before .before .before .before
+      .before .pre .1 .1) in
       omega arith
 
   second-requires-2 : lts.Need-second-requires-2 callees (begin-expression-at span) Post
@@ -257,23 +278,27 @@ module _ (span : ℕ) where
 
   call-requires : lts.Need-call-requires callees (begin-expression-at span) Post
   call-requires c κs =
-      let s = c .before .before .before .before .before .before .before .before .before in
+      let v = c .before .before .before .before .before .before .before in
+      let s = v .before .before .before in
+      let w = v .word .ensures in
       one-small (s .pre .1 .1)
-      (call-at _ (s .pre .1 .0 .0) _ (sym (c .before .before .before .before .before .before .tag .ensures) ∙ c .before .match .keys3) .one-shape)
+      (call-at _ (s .pre .1 .0 .0) _ (rw (w) at (sym (c .before .before .before .before .before .before .tag .ensures) ∙ c .before .match .keys3)) .one-shape)
 
   put-requires-5 : lts.Need-put-requires-5 callees (begin-expression-at span) Post
-  put-requires-5 c κs = put-room (c .before .before .before .before .before .before .before .before .before .before .pre .1 .1)
+  put-requires-5 c κs = put-room (c .before .before .before .before .before .before .before .before .before .before .before .pre .1 .1)
 
   list-of-requires : lts.Need-list-of-requires callees (begin-expression-at span) Post
   list-of-requires c κs = tt
 
   write-list-requires : lts.Need-write-list-requires callees (begin-expression-at span) Post
   write-list-requires c κs =
-      let s = c .before .before .before .before .before .before .before .before .before .before .before .before .before .before .before in
+      let v = c .before .before .before .before .before .before .before .before .before .before .before .before .before in
+      let s = v .before .before .before in
+      let w = v .word .ensures in
       let a = call-at _ (s .pre .1 .0 .0) _
-      (sym (c .before .before .before .before .before .before .before .before .before .before .before .before .tag .ensures)
-      ∙ c .before .before .before .before .before .before .before .match .keys3) in
-      rw (c .before .list-of .ensures) (
+      (rw (w) at (sym (c .before .before .before .before .before .before .before .before .before .before .before .before .tag .ensures)
+      ∙ c .before .before .before .before .before .before .before .match .keys3)) in
+      rw (c .before .list-of .ensures, w) (
         later _ _ _ (s .pre .0) (a .one-later) (a .one-inside),
         ((s .pre .1 .0 .0, a .one-inside), one-room (s .pre .1 .1) (a .one-shape) (put-keeps _ _ _ (c .before .before .before .before .put5 .ensures))),
       )
@@ -282,7 +307,7 @@ module _ (span : ℕ) where
   leaf-requires c κs = tt
 
   put-requires-6 : lts.Need-put-requires-6 callees (begin-expression-at span) Post
-  put-requires-6 c κs = put-room (c .before .before .before .before .before .before .before .before .before .before .pre .1 .1)
+  put-requires-6 c κs = put-room (c .before .before .before .before .before .before .before .before .before .before .before .pre .1 .1)
 
   same-length-3 : lts.Need-same-length-3 callees (begin-expression-at span) Post
   same-length-3 c = put-keeps _ _ _ (c .before .before .before .put3 .ensures)
@@ -291,19 +316,24 @@ module _ (span : ℕ) where
 
   returns-3 : lts.Need-returns-3 callees (begin-expression-at span) Post
   returns-3 c =
-      let s = c .before .before .before .before .before .before .before .before .before .before .before .before .before .before .before .before .before
+      let v = c .before .before .before .before .before .before .before .before .before .before .before .before .before .before .before
       .before .before .before .before .before .before .before in
+      let s = v .before .before .before in
+      let w = v .word .ensures in
       let a = if-at _ (s .pre .1 .0 .0) _
-      (sym (c .before .before .before .before .before .before .before .before .before .before .before .before .before .before .before .before .before
-      .before .before .before .before .tag .ensures)
-      ∙ c .before .before .before .before .before .before .before .before .before .before .before .before .before .before .before .before .match .keys1)
+      (rw (w) at (sym (c .before .before .before .before .before .before .before .before .before .before .before .before .before .before
+      .before .before .before .before .before .before .before .tag .ensures)
+      ∙ c .before .before .before .before .before .before .before .before .before .before .before .before .before .before .before .before .match .keys1))
       in
-      let f = rw (c .before .before .before .before .before .before .before .before .before .before .before .before .before .before
-      .before .first2 .ensures) at
+      let f = rw (
+        c .before .before .before .before .before .before .before .before .before .before .before .before .before .before
+            .before .first2 .ensures,
+        w,
+      ) at
       (c .before .before .before .before .before .before .before .before .before .before .before .before .before .write-condition .ensures) in
-      let g = rw (c .before .before .before .before .before .before .before .before .before .before .second .ensures) at
+      let g = rw (c .before .before .before .before .before .before .before .before .before .before .second .ensures, w) at
       (c .before .before .before .before .before .before .before .before .write-expression2 .ensures) in
-      rw (c .third .ensures)
+      rw (c .third .ensures, w)
       (three-going _ _ _ _ _ (add-one _) _ _ f _ _ (a .three-shape) (a .laters .2) (a .insides .2) g
       (rw (c .before .before .before .before .three .ensures) at (c .before .before .before .put3 .ensures)))
 
@@ -313,16 +343,17 @@ module _ (span : ℕ) where
 
   returns-4 : lts.Need-returns-4 callees (begin-expression-at span) Post
   returns-4 c =
-      let s = c .before .before .before .before .before .before .before .before .before .before .before .before .before .before .before .before .before
-      .before .before in
+      let v = c .before .before .before .before .before .before .before .before .before .before .before .before .before .before .before .before .before in
+      let s = v .before .before .before in
+      let w = v .word .ensures in
       let a = while-at _ (s .pre .1 .0 .0) _
-      (sym (c .before .before .before .before .before .before .before .before .before .before .before .before .before .before .before
-      .before .tag .ensures) ∙ c .before .before .before .before .before .before .before .before .before .before .before .match .keys2) in
-      let f = rw (c .before .before .before .before .before .before .before .before .before .before .first3 .ensures) at
+      (rw (w) at (sym (c .before .before .before .before .before .before .before .before .before .before .before .before .before .before
+      .before .before .tag .ensures) ∙ c .before .before .before .before .before .before .before .before .before .before .before .match .keys2)) in
+      let f = rw (c .before .before .before .before .before .before .before .before .before .before .first3 .ensures, w) at
       (c .before .before .before .before .before .before .before .before .write-condition2 .ensures) in
-      rw (c .second2 .ensures)
+      rw (c .second2 .ensures, w)
       (two-going _ _ _ _ _ (add-one _) _ _ f _ (a .two-shape) (a .second-later) (a .second-inside)
-      (rw (c .before .before .before .before .two2 .ensures) at (c .before .before .before .put4 .ensures)))
+      (rw (c .before .before .before .before .two2 .ensures, w) at (c .before .before .before .put4 .ensures)))
 
   same-length-5 : lts.Need-same-length-5 callees (begin-expression-at span) Post
   same-length-5 c = tree-keeps (c .before .before .write-list .ensures)
@@ -330,34 +361,37 @@ module _ (span : ℕ) where
 
   returns-5 : lts.Need-returns-5 callees (begin-expression-at span) Post
   returns-5 c =
-      let s = c .before .before .before .before .before .before .before .before .before .before .before .before .before .before .before .before .before
-      .before in
+      let v = c .before .before .before .before .before .before .before .before .before .before .before .before .before .before .before .before in
+      let s = v .before .before .before in
+      let w = v .word .ensures in
       let a = call-at _ (s .pre .1 .0 .0) _
-      (sym (c .before .before .before .before .before .before .before .before .before .before .before .before .before .before .before .tag .ensures)
-      ∙ c .before .before .before .before .before .before .before .before .before .before .match .keys3) in
+      (rw (w) at (sym (c .before .before .before .before .before .before .before .before .before .before .before .before .before .before .before .tag .ensures)
+      ∙ c .before .before .before .before .before .before .before .before .before .before .match .keys3)) in
       one-done _ _ _ _ _ (add-one _) _ _ (a .one-shape)
-      (rw (c .before .before .before .before .before .before .before .before .call .ensures) at
+      (rw (c .before .before .before .before .before .before .before .before .call .ensures, w) at
       (c .before .before .before .before .before .before .before .put5 .ensures))
-      (rw (c .before .before .before .before .list-of .ensures) at (c .before .before .write-list .ensures))
+      (rw (c .before .before .before .before .list-of .ensures, w) at (c .before .before .write-list .ensures))
 
   same-length-6 : lts.Need-same-length-6 callees (begin-expression-at span) Post
   same-length-6 c = put-keeps _ _ _ (c .before .before .put6 .ensures)
 
   returns-6 : lts.Need-returns-6 callees (begin-expression-at span) Post
   returns-6 c =
-      let s = c .before .before .before .before .before .before .before .before .before .before .before .before .before in
-      let t = c .before .before .before .before .before .before .before .before .before .before .tag .ensures in
+      let v = c .before .before .before .before .before .before .before .before .before .before .before in
+      let s = v .before .before .before in
+      let w = v .word .ensures in
+      let t = rw (w) at (c .before .before .before .before .before .before .before .before .before .before .tag .ensures) in
       let rest = subst (λ (x : ℕ). NoneOf x (8 ∷ 7 ∷ 6 ∷ [])) t (c .before .before .before .before .before .match .rest) in
       let l = leaf-at _ (s .pre .1 .0 .0) _ rest
       (missed pairs _ _ t (c .before .before .before .before .before .before .before .has-two .ensures)
       (c .before .before .before .before .before .before .if2 .left))
       (missed singles _ _ t (c .before .before .before .before .before .before .before .before .before .has-one .ensures)
       (c .before .before .before .before .before .before .before .before .if1 .left)) in
-      leaf-going _ _ _ _ _ (add-one _) _ l (rw (c .before .before .before .leaf .ensures) at (c .before .before .put6 .ensures))
+      leaf-going _ _ _ _ _ (add-one _) _ l (rw (c .before .before .before .leaf .ensures, w) at (c .before .before .put6 .ensures))
 
   pub begin-expression : {M : Type 1} → lts.Closed callees (begin-expression-at span) Post M
   begin-expression =
-      lts.spec callees (begin-expression-at span) Post mul-word element-copy-out-word tag-requires mul-place add-place add-next has-one-requires one-requires
+      lts.spec callees (begin-expression-at span) Post word-requires tag-requires mul-place add-place add-next has-one-requires one-requires
       put-requires first-requires same-length returns has-two-requires pair-first-requires write-expression-requires two-requires put-requires-2
       pair-second-requires same-length-2 returns-2 first-requires-2 write-condition-requires second-requires write-expression-requires-2 three-requires
       put-requires-3 third-requires first-requires-3 write-condition-requires-2 two-requires-2 put-requires-4 second-requires-2 call-requires
