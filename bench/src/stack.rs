@@ -86,10 +86,10 @@ pub fn print() {
     let (mut log, mut out) = (vec![0; 12288], [0; library::OUT_BYTES]);
     let walked: Vec<Input> = all.iter().filter_map(unbound).collect();
     assert!(!walked.is_empty(), "no plan is walked");
-    most("check, plans that pass", 48, &all, |i| {
+    most("check, plans that pass", 80, &all, |i| {
         library::check(&i.plan);
     });
-    most("check, plans that 7 refuses", 48, &walked, |i| {
+    most("check, plans that 7 refuses", 80, &walked, |i| {
         library::check(&i.plan);
     });
     most("play", 128, &all, |i| {
@@ -106,7 +106,7 @@ pub fn print() {
         library::preview(&i.plan, &i.schedule[..i.schedule.len() - 1], u64::from(i.schedule[i.schedule.len() - 1]), &mut shown);
     });
     let mut written = [0; 5192];
-    most("canonical", 96, &all, |i| {
+    most("canonical", 144, &all, |i| {
         library::canonical(&i.plan, &mut written);
     });
     let mut text = vec![0; 574501];
@@ -115,7 +115,7 @@ pub fn print() {
     });
     let parentheses = Input { name: "parentheses", plan: vec![b'('; 16383], schedule: vec![] };
     let texts: Vec<Input> = all.iter().map(|i| as_text(i, &mut text)).chain([parentheses]).collect();
-    most("read", 192, &texts, |i| {
+    most("read", 224, &texts, |i| {
         library::read(&i.plan, &mut written);
     });
     most("bound", 96, &all, |i| {
