@@ -1,4 +1,5 @@
 // The version of the entries for C and Rust.
+#![tactic(auto)]
 ghost use Rattle.std.specs.Prelude.{◌≡◌};
 ghost use Rattle.abi_version.specs.Version.{version};
 

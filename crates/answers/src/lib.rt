@@ -1,4 +1,6 @@
 // What a tool answers: a value, or document 01's number and place of the refusal.
+#![tactic(auto)]
+
 #[derive(Drop)]
 pub enum Answered {
     Value(usize),

@@ -1,4 +1,5 @@
 // The program comtrade: a log on standard input, the names of the data file and of the configuration file as arguments.
+#![tactic(auto)]
 use libc::STDOUT_FILENO;
 
 fn main() {

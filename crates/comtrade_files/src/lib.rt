@@ -1,4 +1,5 @@
 // What the program comtrade does (document 02, E14): reads a log, and writes its data file and its configuration file, or says what refuses it.
+#![tactic(auto)]
 ghost use Rattle.std.specs.Prelude.{◌≤◌};
 
 use answers::Answered;

@@ -1,1 +1,3 @@
 // A plan's text, read: definitions and their laws alone.
+
+#![tactic(auto)]

@@ -1,1 +1,3 @@
 // The one way to write a plan, on trees: definitions and proofs alone.
+
+#![tactic(auto)]

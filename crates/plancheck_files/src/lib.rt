@@ -1,4 +1,5 @@
 // What the program plancheck does: finds the word among its arguments, reads the files, calls, writes.
+#![tactic(auto)]
 mod files; // files.rt: files and schedules
 mod names; // names.rt: the words, and the uses
 

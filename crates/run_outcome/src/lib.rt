@@ -1,5 +1,7 @@
 // How a run ended, and what the next pick of each of its eight threads would meet (document 01, "How a thread moves"). Every reason has its one home here.
 
+#![tactic(auto)]
+
 // No room for a thread, an object, a key or a depth.
 #[derive(Drop)]
 pub enum NoRoom {

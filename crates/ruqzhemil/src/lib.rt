@@ -1,5 +1,6 @@
 // The entries for programs in C, Rust and other languages, each with a number for its answer. A slice is a pointer and a length.
 // The upper half of a number is 0 for an answer, 1 for the entry's other answer, 2 for a refusal, with number * 65536 + place in the lower half.
+#![tactic(auto)]
 ghost use Rattle.std.specs.Prelude.{◌≡◌, not, eqb};
 ghost use Rattle.plan_packed.specs.Check.{refusal};
 ghost use Rattle.rules.specs.Play.{played, area_after};

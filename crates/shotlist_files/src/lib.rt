@@ -1,5 +1,6 @@
 // What the printing program does (document 01, "Shot list"): reads a plan length, a plan and a schedule, and writes the run's records and outcome, or
 // the refusal.
+#![tactic(auto)]
 use libc::{STDIN_FILENO, STDOUT_FILENO};
 
 // The first 9,291 bytes decide what is written: a length, a plan of at most 5,192 bytes, and one pick more than a schedule may have.

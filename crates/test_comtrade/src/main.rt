@@ -1,4 +1,5 @@
 // A test of the program comtrade: its two files are written into the current folder, read back and printed, the configuration file first.
+#![tactic(auto)]
 use libc::STDOUT_FILENO;
 
 fn print_file(name: &[u8]) {

@@ -1,4 +1,6 @@
 // A test of the program plancheck: what it prints to commands with each of its words but `play`, and to a word that it does not have.
+#![tactic(auto)]
+
 fn of_plan(word: &[u8], plan: &[u8]) {
     plancheck_files::obey(3, word, plan, b"", b"");
 }

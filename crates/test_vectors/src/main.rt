@@ -1,6 +1,7 @@
 // The test program: document 01's shot list and the stored cases of a second interpreter, held to the static library's functions, and the numbers of
 // include/ruqzhemil.h, with which their answers are written. A line for each group of cases and one for all of them; then the same for cases
 // that must differ.
+#![tactic(auto)]
 mod groups; // groups.rt: the cases of a file
 
 use groups::{Group, Tally};

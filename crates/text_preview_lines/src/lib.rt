@@ -1,4 +1,5 @@
 // What the next pick would do after a schedule, in words.
+#![tactic(auto)]
 mod stops; // stops.rt: what stops a run, in words
 
 ghost use Rattle.std.specs.Prelude.{◌≤◌, [], ◌∷◌, ◌++◌, length};

@@ -1,4 +1,5 @@
 // The line of a text that is no plan, written behind the text that is there.
+#![tactic(auto)]
 mod reasons; // reasons.rt: the sentences as one row of bytes
 
 ghost use Rattle.std.specs.Prelude.{◌+◌, ◌≤◌, ◌<◌, ◌≡◌, length};
