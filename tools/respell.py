@@ -45,27 +45,29 @@ def read(path):
 
 
 def declared(top):
-    """The names that the files declare, but for the goals that proofs answer."""
-    names = set()
+    """The names that the files declare, but for the goals that proofs answer, and those of them that are definitions."""
+    names, definitions = set(), set()
     for path in files(top, ".antt"):
         code = COMMENT.sub("", read(path))
         for m in DECLARED.finditer(code):
             if not MADE.search(m[2]):
                 names.add(m[1])
+                if re.match(r" *(pub )?(abbrev|unfoldable)", m[0]):
+                    definitions.add(m[1])
         for m in LISTED.finditer(code):
             names.update(w for w in m[1].split() if re.fullmatch(r"[\w'-]+", w) and w not in ("let", "abbrev", "pub", "unfoldable"))
-    return names
+    return names, definitions
 
 
-def table(names):
+def table(names, definitions):
     rows, by = {}, collections.defaultdict(set)
     for name in names:
         if turns(name):
             by[spelled(name)].add(name)
     for new, olds in by.items():
-        definitions = sorted(n for n in olds if "-" not in n and n != new) or sorted(olds)
+        first = min(olds, key=lambda n: ("-" in n, n == new, n) if len(olds & definitions) != 1 else (n not in definitions,))
         for old in olds:
-            rows[old] = new if old == definitions[0] else new + "_lem"
+            rows[old] = new if old == first else new + "_lem"
         if len(olds) > 1:
             print("met:", new, sorted(olds))
     return {old: new for old, new in rows.items() if old != new}
@@ -105,7 +107,7 @@ def modules(text):
 
 def main(top):
     crates = os.path.join(top, "crates")
-    rows = table(declared(crates))
+    rows = table(*declared(crates))
     of_text = {old: new for old, new in rows.items() if not re.fullmatch(r"[a-z0-9_]+", old)}
     for path in [*files(crates, ".antt", ".rt", ".edit"), *files(top, ".md")]:
         old = text = read(path)

@@ -8,7 +8,7 @@ ghost use Rattle.abi_thread_bytes.specs.Inner.Small.{SmallStatus};
 use run_outcome::{NoRoom, Stop, Stuck, ThreadState, Wait};
 
 // The first three of a thread's four bytes: its state, the value or the object that the state names, the field that it names. The fourth is its total.
-#[derive(Drop)]
+#[derive(Clone, Copy)]
 pub struct ThreadBytes {
     pub state: u8,
     pub named: u8,

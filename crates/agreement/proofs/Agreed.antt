@@ -18,7 +18,7 @@ use Rattle.log_order.proofs.Past.{at_within}
 use Rattle.log_conflicts.proofs.FirstConflict.{unordered→conflicting}
 use Rattle.plan_packed.specs.Syntax.{Program}
 use Rattle.plan_packed.specs.Format.{version}
-use Rattle.plan_packed.specs.Trees.{program_of_lem}
+use Rattle.plan_packed.specs.Trees.{program_of}
 use Rattle.plan_packed.specs.Check.{refusal}
 use Rattle.plan_packed.proofs.WellFormed.{WellFormedProgram}
 use Rattle.plan_packed.proofs.Accepted.{accepted}
@@ -98,19 +98,19 @@ play_agrees g P ps few =
 
 -- ---- accepted plans
 
-run_is : (plan schedule : List ℕ) → run_of plan schedule ≡ play (program_of_lem plan) schedule
+run_is : (plan schedule : List ℕ) → run_of plan schedule ≡ play (program_of plan) schedule
 unfolding run_of
 run_is plan schedule = refl
 
 -- demand 3: any accepted plan, any list of at most 4,096 picks
-pub agreement : (plan schedule : List ℕ) → refusal plan ≡ none → length schedule ≤ 4096 → Agreement (program_of_lem plan) schedule (run_of plan schedule)
+pub agreement : (plan schedule : List ℕ) → refusal plan ≡ none → length schedule ≤ 4096 → Agreement (program_of plan) schedule (run_of plan schedule)
 agreement plan schedule h few =
-    along (Agreement (program_of_lem plan) schedule) (sym (run_is plan schedule)) (play_agrees (program_of_lem plan) (well_formed plan h) schedule few)
+    along (Agreement (program_of plan) schedule) (sym (run_is plan schedule)) (play_agrees (program_of plan) (well_formed plan h) schedule few)
 
 -- "what E7 says of runs holds where it is told the plan's version" (document 02, E8): of an accepted plan the judge takes the number of the version, and
 -- answers for the program's version
-pub told_plan : (plan b : List ℕ) (a : Judged) → refusal plan ≡ none → AnswersTold (version plan) b a ↔ Answers (program_of_lem plan).version b a
-unfolding program_of_lem
+pub told_plan : (plan b : List ℕ) (a : Judged) → refusal plan ≡ none → AnswersTold (version plan) b a ↔ Answers (program_of plan).version b a
+unfolding program_of
 told_plan plan b a h = let known = (accepted plan h).version_known in (told_known known, right_version known)
 
 -- a run's log has at most one access that nothing orders after the last write

@@ -8,7 +8,7 @@ use mathlib.Core.Option.{Option}
 use lib.ListN.{take}
 use Rattle.log_conflicts.specs.Judge.{named, Answers, AnswersTold}
 use Rattle.plan_packed.specs.Format.{version}
-use Rattle.plan_packed.specs.Trees.{program_of_lem}
+use Rattle.plan_packed.specs.Trees.{program_of}
 use Rattle.plan_refusals.specs.declared.Checked.TheVariants as checked
 use Rattle.log_records.specs.Packed.{bytes_of}
 use Rattle.rules.specs.Run.{log}
@@ -27,13 +27,13 @@ use Rattle.agreement.proofs.Agreed.{agreement, told_plan}
 -- ---- a play that is not refused
 
 module _ (plan schedule area : List ℕ) (p : Played) (h : answered p ≡ played plan schedule area) (e : p.checked ≡ checked.Passed) where
-  agrees_all : Agreement (program_of_lem plan) schedule (run_of plan schedule)
+  agrees_all : Agreement (program_of plan) schedule (run_of plan schedule)
   agrees_all = let a = passes plan schedule area p h e in agreement plan schedule a.plan_passes a.few
 
   -- what the judge says of the first bytes of the log area that the play leaves
   module _ (after : List ℕ) (left : after ≡ area_after plan schedule area) (j : Judgement) (n : ℕ) (q : n ≡ 3 * p.outcome.records) (v : ℕ)
       (w : v ≡ version plan) (m : AnswersTold v (take n after) (judge.answered j)) where
-    answers : Answers (program_of_lem plan).version (bytes_of (log (run_of plan schedule))) (judge.answered j)
+    answers : Answers (program_of plan).version (bytes_of (log (run_of plan schedule))) (judge.answered j)
     answers =
         (told_plan plan (bytes_of (log (run_of plan schedule))) (judge.answered j) (passes plan schedule area p h e).plan_passes).0
         (along (λ (k : ℕ). AnswersTold k (bytes_of (log (run_of plan schedule))) (judge.answered j)) w

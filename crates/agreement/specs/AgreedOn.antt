@@ -3,7 +3,7 @@ use Rattle.std.specs.Prelude.{ℕ, ◌≡◌, List}
 use Rattle.std.proofs.Math.Option.{Option}
 use Rattle.log_conflicts.specs.Judge.{named, Answers}
 use Rattle.log_records.specs.Packed.{bytes_of}
-use Rattle.plan_packed.specs.Trees.{program_of_lem}
+use Rattle.plan_packed.specs.Trees.{program_of}
 use Rattle.plan_refusals.specs.declared.Checked.TheVariants as checked
 use Rattle.rules.specs.Run.{log}
 use Rattle.rules.specs.Play.{run_of}
@@ -17,9 +17,9 @@ use Rattle.agreement.specs.declared.PlayedAndJudged.{PlayedAndJudged}
 pub record AgreedOn (plan schedule : List ℕ) (r : PlayedAndJudged) : Type 0 where
   -- "a plain access in the log is where the run stopped for want of its key exactly when its field has an earlier plain write and no happens-before
   -- chain leads from the last such write to it": the run that was played, its log, and what the judge answers to it
-  pub chains : r.played.checked ≡ checked.Passed → Agreement (program_of_lem plan) schedule (run_of plan schedule)
+  pub chains : r.played.checked ≡ checked.Passed → Agreement (program_of plan) schedule (run_of plan schedule)
   -- the judgement that the code came to is the judge's of that run's log
-  pub judged : r.played.checked ≡ checked.Passed → Answers (program_of_lem plan).version (bytes_of (log (run_of plan schedule))) (answered r.judgement)
+  pub judged : r.played.checked ≡ checked.Passed → Answers (program_of plan).version (bytes_of (log (run_of plan schedule))) (answered r.judgement)
   -- and by what the code answers of that run: "When a run stops for a missing key, the judge names that record or an earlier one; a judge that finds none
   -- means no missing key."
   pub agrees : r.played.checked ≡ checked.Passed

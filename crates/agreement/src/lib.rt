@@ -14,7 +14,7 @@ use plan_refusals::Checked;
 use play::outcome::Played;
 
 // What a play answers, and what the judge says of the records that it wrote, or the refusal of the play.
-#[derive(Drop)]
+#[derive(Clone, Copy)]
 pub struct PlayedAndJudged {
     pub played: Played,
     pub judgement: Judgement,

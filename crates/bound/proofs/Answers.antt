@@ -13,7 +13,7 @@ use Rattle.format.specs.Inner.Lowest.{Lowest}
 use Rattle.format.proofs.LowestLaws.{whole, whole_none}
 use Rattle.run_keys.specs.Keys.{holds, subset}
 use Rattle.plan_packed.specs.Format.{procedures, terms}
-use Rattle.plan_packed.specs.Trees.{program_of_lem}
+use Rattle.plan_packed.specs.Trees.{program_of}
 use Rattle.plan_packed.specs.Check.{refusal}
 use Rattle.plan_packed.specs.Refusals.{any_below}
 use Rattle.plan_packed.specs.Inner.Steps.{tag_in}
@@ -48,7 +48,7 @@ pub by_check : (b : List ℕ) (r : Checked) (k i : ℕ) → checked.answered r �
 unfolding bounded answer_by or_else checked.answered
 by_check b r k i e q =
     let s : refusal b ≡ some (record { number = k; place = i }) = sym e ∙ ap checked.answered q in
-    ap (λ (o : Option Refusal). answer_by o (total (program_of_lem b)))
+    ap (λ (o : Option Refusal). answer_by o (total (program_of b)))
     (sym (bound_stages b ∙ ap (λ (x : Option Refusal). or_else x (first_refusal (later_checks b))) s))
 
 -- what is not false
@@ -61,11 +61,11 @@ module _ {b words : List ℕ} {n : ℕ} (l : Loads b n words) where
 
   module _ {sets : List ℕ} (C : Called b n sets) (done : ℕ) (S : Stuck b sets done) where
     -- a procedure that is left calls one that is
-    left_calls : (p : ℕ) → p < n → holds done p ≡ false → (q : ℕ) × (q < n) × (called (program_of_lem b) p q ≡ true) × (holds done q ≡ false)
+    left_calls : (p : ℕ) → p < n → holds done p ≡ false → (q : ℕ) × (q < n) × (called (program_of b) p q ≡ true) × (holds done q ≡ false)
     left_calls p h f = go (any_below 32 (λ q. holds (get_or sets p 0) q && not (holds done q))) refl
       where
         go : (x : Bool) → any_below 32 (λ q. holds (get_or sets p 0) q && not (holds done q)) ≡ x
-            → (q : ℕ) × (q < n) × (called (program_of_lem b) p q ≡ true) × (holds done q ≡ false)
+            → (q : ℕ) × (q < n) × (called (program_of b) p q ≡ true) × (holds done q ≡ false)
         go true e =
             let a = any_found 32 (λ q. holds (get_or sets p 0) q && not (holds done q)) e in
             let c = both (holds (get_or sets p 0) a.0) (not (holds done a.0)) a.2 in
@@ -76,41 +76,41 @@ module _ {b words : List ℕ} {n : ℕ} (l : Loads b n words) where
             (λ q i k. unless (holds done q) (λ z. true≢false (sym (any_true 32 (λ q. holds (get_or sets p 0) q && not (holds done q)) q i (rw (k, z))) ∙ e))))
             ∙ S p (let m = l.procedures_are in omega arith) f))
 
-    left_leads : (k p : ℕ) → p < n → holds done p ≡ false → leads_on (program_of_lem b) k p ≡ true
+    left_leads : (k p : ℕ) → p < n → holds done p ≡ false → leads_on (program_of b) k p ≡ true
     unfolding leads_on
     left_leads zero p h f = refl
     left_leads (suc k) p h f =
         let a = left_calls p h f in
-        one_more_lem (program_of_lem b) k p a.0 (counted_in b l.passes a.0 (let i = a.1 in let m = l.procedures_are in omega arith)) a.2
+        one_more_lem (program_of b) k p a.0 (counted_in b l.passes a.0 (let i = a.1 in let m = l.procedures_are in omega arith)) a.2
         (left_leads k a.0 a.1 a.3)
 
     -- one is left
-    pub left_cyclic : (p : ℕ) → p < n → holds done p ≡ false → cyclic (program_of_lem b) ≡ true
-    left_cyclic p h f = long_cyclic (program_of_lem b) p (counted_in b l.passes p (let m = l.procedures_are in omega arith))
-        (left_leads (procedure_count (program_of_lem b)) p h f)
+    pub left_cyclic : (p : ℕ) → p < n → holds done p ≡ false → cyclic (program_of b) ≡ true
+    left_cyclic p h f = long_cyclic (program_of b) p (counted_in b l.passes p (let m = l.procedures_are in omega arith))
+        (left_leads (procedure_count (program_of b)) p h f)
 
   -- none is
   module _ {done : ℕ} {costs : List ℕ} (S : Settled b done costs) (all : (p : ℕ) → p < n → holds done p ≡ true) where
-    all_end : (p : ℕ) → p < procedure_count (program_of_lem b) → leads_on (program_of_lem b) S.depth p ≡ false
+    all_end : (p : ℕ) → p < procedure_count (program_of b) → leads_on (program_of b) S.depth p ≡ false
     all_end p h = let i = counted_out b l.passes p h in S.by_depth.ends p i (all p (let m = l.procedures_are in omega arith))
 
-    pub all_acyclic : cyclic (program_of_lem b) ≡ false
-    all_acyclic = ends_acyclic (program_of_lem b) S.depth all_end
+    pub all_acyclic : cyclic (program_of b) ≡ false
+    all_acyclic = ends_acyclic (program_of b) S.depth all_end
 
     main_there : 0 < procedures b
     main_there = let h = (accepted b l.passes).some_procedure in omega arith
 
     -- main's cost
-    pub main_cost : get_or costs 0 0 ≡ capped (body_cost (program_of_lem b) (procedure_count (program_of_lem b)) 0)
+    pub main_cost : get_or costs 0 0 ≡ capped (body_cost (program_of b) (procedure_count (program_of b)) 0)
     main_cost =
         S.by_depth.costs_are 0 main_there (all 0 (let m = l.procedures_are in let h = main_there in omega arith))
-        ∙ ap capped (sym (once (program_of_lem b) (body_cost (program_of_lem b) (procedure_count (program_of_lem b))) (fixed (program_of_lem b) all_acyclic) S.depth 0
+        ∙ ap capped (sym (once (program_of b) (body_cost (program_of b) (procedure_count (program_of b))) (fixed (program_of b) all_acyclic) S.depth 0
         (all_end 0 (counted_in b l.passes 0 main_there))))
 
     -- and its total, which 65,536 moves stand for where it is more
-    pub total_in : (v : ℕ) → v ≡ get_or costs 0 0 + 1 → v ≡ min (total (program_of_lem b)) 65537
+    pub total_in : (v : ℕ) → v ≡ get_or costs 0 0 + 1 → v ≡ min (total (program_of b)) 65537
     unfolding total
-    total_in v e = let c = main_cost in let x = body_cost (program_of_lem b) (procedure_count (program_of_lem b)) 0 in omega arith
+    total_in v e = let c = main_cost in let x = body_cost (program_of b) (procedure_count (program_of b)) 0 in omega arith
 
   -- ---- refusal 22
 
@@ -124,38 +124,38 @@ module _ {b words : List ℕ} {n : ℕ} (l : Loads b n words) where
   unfolding or_else
   later = bound_stages b ∙ rw l.passes
 
-  said : (r : Option Refusal) → first_refusal (later_checks b) ≡ r → answer_by r (total (program_of_lem b)) ≡ bounded b
+  said : (r : Option Refusal) → first_refusal (later_checks b) ≡ r → answer_by r (total (program_of b)) ≡ bounded b
   unfolding bounded
-  said r e = ap (λ (o : Option Refusal). answer_by o (total (program_of_lem b))) (sym (later ∙ e))
+  said r e = ap (λ (o : Option Refusal). answer_by o (total (program_of b))) (sym (later ∙ e))
 
-  pub answer_21 : cyclic (program_of_lem b) ≡ true → refused (record { number = 21; place = 0 }) ≡ bounded b
+  pub answer_21 : cyclic (program_of b) ≡ true → refused (record { number = 21; place = 0 }) ≡ bounded b
   unfolding answer_by first_refusal refuse
-  answer_21 e = let m : lowest (λ place. cyclic (program_of_lem b)) 1 ≡ some 0 =
-      whole (cyclic (program_of_lem b)) e in said (some (record { number = 21; place = 0 })) (rw m)
+  answer_21 e = let m : lowest (λ place. cyclic (program_of b)) 1 ≡ some 0 =
+      whole (cyclic (program_of b)) e in said (some (record { number = 21; place = 0 })) (rw m)
 
-  module _ (a : cyclic (program_of_lem b) ≡ false) where
-    m21 : lowest (λ place. cyclic (program_of_lem b)) 1 ≡ none
-    m21 = whole_none (cyclic (program_of_lem b)) a
+  module _ (a : cyclic (program_of b) ≡ false) where
+    m21 : lowest (λ place. cyclic (program_of b)) 1 ≡ none
+    m21 = whole_none (cyclic (program_of b)) a
 
     pub answer_22 : has_while b ≡ true → refused (record { number = 22; place = 0 }) ≡ bounded b
     unfolding answer_by first_refusal refuse
     answer_22 e = let m : lowest (λ place. has_while b) 1 ≡ some 0 = whole (has_while b) e in said (some (record { number = 22; place = 0 })) (rw (m21, m))
 
-    module _ (w : has_while b ≡ false) (v : ℕ) (t : v ≡ min (total (program_of_lem b)) 65537) where
+    module _ (w : has_while b ≡ false) (v : ℕ) (t : v ≡ min (total (program_of b)) 65537) where
       m22 : lowest (λ place. has_while b) 1 ≡ none
       m22 = whole_none (has_while b) w
 
       pub answer_23 : 65535 < v → refused (record { number = 23; place = 0 }) ≡ bounded b
       unfolding answer_by first_refusal refuse over_most
       answer_23 h =
-          let m : lowest (λ place. over_most (total (program_of_lem b))) 1 ≡ some 0 =
-          whole (over_most (total (program_of_lem b))) (lt-ltb 65535 (total (program_of_lem b)) (omega arith)) in
+          let m : lowest (λ place. over_most (total (program_of b))) 1 ≡ some 0 =
+          whole (over_most (total (program_of b))) (lt-ltb 65535 (total (program_of b)) (omega arith)) in
           said (some (record { number = 23; place = 0 })) (rw (m21, m22, m))
 
       pub answer_moves : v ≤ 65535 → value v ≡ bounded b
       unfolding answer_by first_refusal refuse over_most
       answer_moves h =
-          let m : lowest (λ place. over_most (total (program_of_lem b))) 1 ≡ none =
-          whole_none (over_most (total (program_of_lem b))) (le-ltb 65535 (total (program_of_lem b)) (omega arith)) in
-          let e : v ≡ total (program_of_lem b) = omega arith in
+          let m : lowest (λ place. over_most (total (program_of b))) 1 ≡ none =
+          whole_none (over_most (total (program_of b))) (le-ltb 65535 (total (program_of b)) (omega arith)) in
+          let e : v ≡ total (program_of b) = omega arith in
           ap value e ∙ said none (rw (m21, m22, m))

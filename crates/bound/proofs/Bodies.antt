@@ -10,7 +10,7 @@ use lib.ListN.{length, get_elem?}
 use borrow.Author.Tests.{eqb-true}
 use Rattle.plan_packed.specs.Syntax.{Expression, Condition, Arguments, Procedure, Program}
 use Rattle.plan_packed.specs.Format.{procedures, terms, root}
-use Rattle.plan_packed.specs.Trees.{tree_at, procedure_at, program_of_lem}
+use Rattle.plan_packed.specs.Trees.{tree_at, procedure_at, program_of}
 use Rattle.plan_packed.specs.Check.{refusal}
 use Rattle.plan_packed.specs.Slots.{bound}
 use Rattle.plan_packed.specs.Inner.Steps.{Right, Loaded, Ordered, tree_in}
@@ -73,20 +73,20 @@ module _ (g : Program) (n q : ℕ) where
 
 module _ (b : List ℕ) (ok : refusal b ≡ none) where
   -- the program's procedures are the plan's
-  pub counted_in : (p : ℕ) → p < procedures b → p < procedure_count (program_of_lem b)
-  counted_in p h = inside (program_of_lem b).procedures p (procedure_at b p) (procedures_are b p h)
+  pub counted_in : (p : ℕ) → p < procedures b → p < procedure_count (program_of b)
+  counted_in p h = inside (program_of b).procedures p (procedure_at b p) (procedures_are b p h)
 
-  pub counted_out : (p : ℕ) → p < procedure_count (program_of_lem b) → p < procedures b
-  counted_out p h = let t = there (program_of_lem b).procedures p h in (procedures_inside b p t.0 t.1).0
+  pub counted_out : (p : ℕ) → p < procedure_count (program_of b) → p < procedures b
+  counted_out p h = let t = there (program_of b).procedures p h in (procedures_inside b p t.0 t.1).0
 
-  pub callee_inside : (p q : ℕ) → called (program_of_lem b) p q ≡ true → q < procedures b
+  pub callee_inside : (p q : ℕ) → called (program_of b) p q ≡ true → q < procedures b
   unfolding called
-  callee_inside p q h = go (get_elem? (program_of_lem b).procedures p) refl h
+  callee_inside p q h = go (get_elem? (program_of b).procedures p) refl h
     where
-      go : (d : Option Procedure) → get_elem? (program_of_lem b).procedures p ≡ d → calls_by q d ≡ true → q < procedures b
+      go : (d : Option Procedure) → get_elem? (program_of b).procedures p ≡ d → calls_by q d ≡ true → q < procedures b
       go none e k = absurd (true≢false (sym k))
       go (some d) e k =
-          let t = callee_there (program_of_lem b) 1 q d.body (λ x. ltb x d.parameters) ((well_formed b ok).bodies p d e) k in
+          let t = callee_there (program_of b) 1 q d.body (λ x. ltb x d.parameters) ((well_formed b ok).bodies p d e) k in
           (procedures_inside b q t.0 t.1).0
 
   pub right_of : Right b (procedures b) (terms b)
@@ -134,10 +134,10 @@ module _ {b words : List ℕ} {n : ℕ} (l : Loads b n words) where
     tree_there : {t : ℕ} → t ≡ root b p → tree_in words t ≡ tree_at b (root b p)
     tree_there e = tree_is b (procedures b) (terms b) (right_of b l.passes) words l.loaded _ ∙ ap (tree_at b) e
 
-    pub called_in : {t : ℕ} → t ≡ root b p → (q : ℕ) → calls q (tree_in words t) ≡ called (program_of_lem b) p q
+    pub called_in : {t : ℕ} → t ≡ root b p → (q : ℕ) → calls q (tree_in words t) ≡ called (program_of b) p q
     unfolding called procedure_at
     called_in e q = ap (calls q) (tree_there e) ∙ sym (ap (calls_by q) (procedures_are b p inside_plan))
 
-    pub cost_in : {t : ℕ} → t ≡ root b p → (k : ℕ) → cost (body_cost (program_of_lem b) k) (tree_in words t) ≡ body_cost (program_of_lem b) (suc k) p
+    pub cost_in : {t : ℕ} → t ≡ root b p → (k : ℕ) → cost (body_cost (program_of b) k) (tree_in words t) ≡ body_cost (program_of b) (suc k) p
     unfolding body_cost procedure_at
-    cost_in e k = ap (cost (body_cost (program_of_lem b) k)) (tree_there e) ∙ sym (ap (cost_of_body (body_cost (program_of_lem b) k)) (procedures_are b p inside_plan))
+    cost_in e k = ap (cost (body_cost (program_of b) k)) (tree_there e) ∙ sym (ap (cost_of_body (body_cost (program_of b) k)) (procedures_are b p inside_plan))

@@ -22,8 +22,8 @@ nothing n b = omega arith
 one : (f : ℕ → ℕ) (x : ℕ) → Adds f x → Adds (λ n. f (capped (n + 1))) (suc x)
 one f x p n b = let e = p (capped (n + 1)) (omega arith) in omega arith
 
-in_turn : (f g : ℕ → ℕ) (x y : ℕ) → Adds f x → Adds g y → Adds (λ n. g (f n)) (x + y)
-in_turn f g x y p q n b = let e = p n b in let d = q (f n) (omega arith) in omega arith
+in_turn_lem : (f g : ℕ → ℕ) (x y : ℕ) → Adds f x → Adds g y → Adds (λ n. g (f n)) (x + y)
+in_turn_lem f g x y p q n b = let e = p n b in let d = q (f n) (omega arith) in omega arith
 
 dearer : (f g : ℕ → ℕ) (x y : ℕ) → Adds f x → Adds g y → Adds (λ n. max (f n) (g n)) (max x y)
 dearer f g x y p q n b = let e = p n b in let d = q n b in omega arith
@@ -69,24 +69,24 @@ module _ (T B : ℕ → ℕ) where
     counted (Expression.new fs) h = one (λ n. n) 0 nothing
     counted (Expression.read e f) h = one (at e) _ (counted e h)
     counted (Expression.write e f e') h = let d = parts (λ q. calls q e) (λ q. calls q e') h in
-        one (λ n. at e' (at e n)) _ (in_turn (at e) (at e') _ _ (counted e d.0) (counted e' d.1))
+        one (λ n. at e' (at e n)) _ (in_turn_lem (at e) (at e') _ _ (counted e d.0) (counted e' d.1))
     counted (Expression.let_in x e e') h = let d = parts (λ q. calls q e) (λ q. calls q e') h in
-        one (λ n. at e' (at e n)) _ (in_turn (at e) (at e') _ _ (counted e d.0) (counted e' d.1))
+        one (λ n. at e' (at e n)) _ (in_turn_lem (at e) (at e') _ _ (counted e d.0) (counted e' d.1))
     counted (Expression.if c e e') h =
         let d = parts (λ q. callsᶜ q c) (λ q. calls q e || calls q e') h in
         let k = parts (λ q. calls q e) (λ q. calls q e') d.1 in
         one (λ n. max (at e (atᶜ c n)) (at e' (atᶜ c n))) _
-        (in_turn (atᶜ c) (λ n. max (at e n) (at e' n)) _ _ (countedᶜ c d.0) (dearer (at e) (at e') _ _ (counted e k.0) (counted e' k.1)))
+        (in_turn_lem (atᶜ c) (λ n. max (at e n) (at e' n)) _ _ (countedᶜ c d.0) (dearer (at e) (at e') _ _ (counted e k.0) (counted e' k.1)))
     counted (Expression.while c e) h = let d = parts (λ q. callsᶜ q c) (λ q. calls q e) h in
-        one (λ n. at e (atᶜ c n)) _ (in_turn (atᶜ c) (at e) _ _ (countedᶜ c d.0) (counted e d.1))
+        one (λ n. at e (atᶜ c n)) _ (in_turn_lem (atᶜ c) (at e) _ _ (countedᶜ c d.0) (counted e d.1))
     counted (Expression.call m es) h =
         let d = parts (λ q. callsᵃ q es) (λ q. eqb m q) h in
-        one (λ n. capped (atᵃ es n + T m)) _ (in_turn (atᵃ es) (λ n. capped (n + T m)) _ _ (countedᵃ es d.0) (known (T m) (B m) (d.1 m (eq-eqb m m refl))))
+        one (λ n. capped (atᵃ es n + T m)) _ (in_turn_lem (atᵃ es) (λ n. capped (n + T m)) _ _ (countedᵃ es d.0) (known (T m) (B m) (d.1 m (eq-eqb m m refl))))
     counted (Expression.fork e) h = one (at e) _ (counted e h)
     counted (Expression.join e) h = one (at e) _ (counted e h)
     counted (Expression.synch e e') h =
         let d = parts (λ q. calls q e) (λ q. calls q e') h in
-        one (λ n. at e' (at e (capped (n + 1)))) _ (one (λ n. at e' (at e n)) _ (in_turn (at e) (at e') _ _ (counted e d.0) (counted e' d.1)))
+        one (λ n. at e' (at e (capped (n + 1)))) _ (one (λ n. at e' (at e n)) _ (in_turn_lem (at e) (at e') _ _ (counted e d.0) (counted e' d.1)))
     counted (Expression.hold o e) h = one (at e) _ (counted e h)
     counted (Expression.signal k e) h = signal k (at e) _ (counted e h)
     counted (Expression.waiting o) h = one (λ n. n) 0 nothing
@@ -95,11 +95,11 @@ module _ (T B : ℕ → ℕ) where
     countedᶜ Condition.truth h = nothing
     countedᶜ (Condition.not c) h = one (atᶜ c) _ (countedᶜ c h)
     countedᶜ (Condition.and c c') h = let d = parts (λ q. callsᶜ q c) (λ q. callsᶜ q c') h in
-        one (λ n. atᶜ c' (atᶜ c n)) _ (in_turn (atᶜ c) (atᶜ c') _ _ (countedᶜ c d.0) (countedᶜ c' d.1))
+        one (λ n. atᶜ c' (atᶜ c n)) _ (in_turn_lem (atᶜ c) (atᶜ c') _ _ (countedᶜ c d.0) (countedᶜ c' d.1))
     countedᶜ (Condition.equal e e') h = let d = parts (λ q. calls q e) (λ q. calls q e') h in
-        one (λ n. at e' (at e n)) _ (in_turn (at e) (at e') _ _ (counted e d.0) (counted e' d.1))
+        one (λ n. at e' (at e n)) _ (in_turn_lem (at e) (at e') _ _ (counted e d.0) (counted e' d.1))
 
     countedᵃ : (es : Arguments) → Known (λ q. callsᵃ q es) → Adds (atᵃ es) (costᵃ B es)
     countedᵃ Arguments.end h = nothing
     countedᵃ (Arguments.argument e es) h = let d = parts (λ q. calls q e) (λ q. callsᵃ q es) h in
-        in_turn (at e) (atᵃ es) _ _ (counted e d.0) (countedᵃ es d.1)
+        in_turn_lem (at e) (atᵃ es) _ _ (counted e d.0) (countedᵃ es d.1)

@@ -15,7 +15,7 @@ use borrow.Author.Tests.{eq-eqb, ne_eqb}
 use Rattle.run_keys.specs.Keys.{singleton, holds, subset}
 use Rattle.run_keys.proofs.KeyLaws.{holds_empty, holds_singleton}
 use Rattle.plan_packed.specs.Format.{procedures, root}
-use Rattle.plan_packed.specs.Trees.{program_of_lem}
+use Rattle.plan_packed.specs.Trees.{program_of}
 use Rattle.plan_packed.specs.Inner.Steps.{tree_in}
 use Rattle.costs.specs.Cost.{cost, body_cost}
 use Rattle.costs.specs.Calls.{calls, called}
@@ -60,7 +60,7 @@ module _ {bits : List ℕ} (B : Bits 32 bits) where
   -- the set that the walk of a body comes to
   module _ {b words : List ℕ} {n : ℕ} (l : Loads b n words) (p : ℕ) (h : p < n) {t : ℕ} (e : t ≡ root b p) {c : ℕ}
       (w : c ≡ walked false (entry_of bits) 0 (tree_in words t)) where
-    pub set_each : (q : ℕ) → q < 32 → holds c q ≡ called (program_of_lem b) p q
+    pub set_each : (q : ℕ) → q < 32 → holds c q ≡ called (program_of b) p q
     set_each q k = ap (λ (x : ℕ). holds x q) w ∙ found (entry_of bits) q (alone q k) (tree_in words t) 0 ∙ rw (holds_empty q) (called_in l p h e q)
 
     pub set_small : c < 2 ^ 32
@@ -71,45 +71,45 @@ module _ {bits : List ℕ} (B : Bits 32 bits) where
 module _ {b words : List ℕ} {n : ℕ} (l : Loads b n words) {sets : List ℕ} (C : Called b n sets) where
   -- p's callees are known
   module _ {done : ℕ} {costs : List ℕ} (S : Settled b done costs) (p : ℕ) (h : p < n) (k : subset (get_or sets p 0) done ≡ true) where
-    known : (q : ℕ) → called (program_of_lem b) p q ≡ true → holds done q ≡ true
+    known : (q : ℕ) → called (program_of b) p q ≡ true → holds done q ≡ true
     known q c =
         let i = callee_inside b l.passes p q c in
         of_subset (get_or sets p 0) done q k (C.each p h q (let f = few_procedures l in let e = l.procedures_are in omega arith) ∙ c)
 
-    ends_here : leads_on (program_of_lem b) (suc S.depth) p ≡ false
+    ends_here : leads_on (program_of b) (suc S.depth) p ≡ false
     ends_here =
-        by_true (leads_on (program_of_lem b) (suc S.depth) p)
-        (λ e. let a = goes (program_of_lem b) S.depth p e in
+        by_true (leads_on (program_of b) (suc S.depth) p)
+        (λ e. let a = goes (program_of b) S.depth p e in
         true≢false (sym a.3 ∙ S.by_depth.ends a.0 (counted_out b l.passes a.0 a.1) (known a.0 a.2)))
 
-    ends_still : (q : ℕ) → leads_on (program_of_lem b) S.depth q ≡ false → leads_on (program_of_lem b) (suc S.depth) q ≡ false
-    ends_still q e = by_true (leads_on (program_of_lem b) (suc S.depth) q) (λ y. true≢false (sym (one_less (program_of_lem b) S.depth q y) ∙ e))
+    ends_still : (q : ℕ) → leads_on (program_of b) S.depth q ≡ false → leads_on (program_of b) (suc S.depth) q ≡ false
+    ends_still q e = by_true (leads_on (program_of b) (suc S.depth) q) (λ y. true≢false (sym (one_less (program_of b) S.depth q y) ∙ e))
 
     module _ {t : ℕ} (r : t ≡ root b p) {v : ℕ} (w : v ≡ walked true (entry_of costs) 0 (tree_in words t)) where
-      its_cost : v ≡ capped (body_cost (program_of_lem b) (suc S.depth) p)
+      its_cost : v ≡ capped (body_cost (program_of b) (suc S.depth) p)
       its_cost =
-          w ∙ counted (entry_of costs) (body_cost (program_of_lem b) S.depth) (tree_in words t)
-          (λ q c. let y : called (program_of_lem b) p q ≡ true =
+          w ∙ counted (entry_of costs) (body_cost (program_of b) S.depth) (tree_in words t)
+          (λ q c. let y : called (program_of b) p q ≡ true =
           sym (called_in l p h r q) ∙ c in S.by_depth.costs_are q (callee_inside b l.passes p q y) (known q y)) 0 (omega arith)
           ∙ ap capped (let z = cost_in l p h r S.depth in omega arith)
 
-      ends_all : (q : ℕ) → q < procedures b → holds (bit_or done (singleton p)) q ≡ true → leads_on (program_of_lem b) (suc S.depth) q ≡ false
+      ends_all : (q : ℕ) → q < procedures b → holds (bit_or done (singleton p)) q ≡ true → leads_on (program_of b) (suc S.depth) q ≡ false
       ends_all q i d = go (which done p q d)
         where
-          go : (holds done q ≡ true) ⊎ (q ≡ p) → leads_on (program_of_lem b) (suc S.depth) q ≡ false
+          go : (holds done q ≡ true) ⊎ (q ≡ p) → leads_on (program_of b) (suc S.depth) q ≡ false
           go (inl y) = ends_still q (S.by_depth.ends q i y)
-          go (inr y) = subst (λ (x : ℕ). leads_on (program_of_lem b) (suc S.depth) x ≡ false) (sym y) ends_here
+          go (inr y) = subst (λ (x : ℕ). leads_on (program_of b) (suc S.depth) x ≡ false) (sym y) ends_here
 
       costs_all : holds done p ≡ false → (q : ℕ) → q < procedures b → holds (bit_or done (singleton p)) q ≡ true
-          → get_or (set costs p v) q 0 ≡ capped (body_cost (program_of_lem b) (suc S.depth) q)
+          → get_or (set costs p v) q 0 ≡ capped (body_cost (program_of b) (suc S.depth) q)
       costs_all f q i d = go (which done p q d)
         where
-          go : (holds done q ≡ true) ⊎ (q ≡ p) → get_or (set costs p v) q 0 ≡ capped (body_cost (program_of_lem b) (suc S.depth) q)
+          go : (holds done q ≡ true) ⊎ (q ≡ p) → get_or (set costs p v) q 0 ≡ capped (body_cost (program_of b) (suc S.depth) q)
           go (inl y) =
               get_or-set_other costs p q v 0 (λ e. true≢false (sym y ∙ ap (holds done) e ∙ f))
-              ∙ S.by_depth.costs_are q i y ∙ ap capped (stable (program_of_lem b) S.depth q (S.by_depth.ends q i y))
+              ∙ S.by_depth.costs_are q i y ∙ ap capped (stable (program_of b) S.depth q (S.by_depth.ends q i y))
           go (inr y) =
-              subst (λ (x : ℕ). get_or (set costs p v) x 0 ≡ capped (body_cost (program_of_lem b) (suc S.depth) x)) (sym y)
+              subst (λ (x : ℕ). get_or (set costs p v) x 0 ≡ capped (body_cost (program_of b) (suc S.depth) x)) (sym y)
               (get_or-set_same costs p v 0 (let s = S.size in let m = few_procedures l in omega arith) ∙ its_cost)
 
       pub settles : holds done p ≡ false → Settled b (bit_or done (singleton p)) (set costs p v)

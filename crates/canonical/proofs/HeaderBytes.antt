@@ -10,7 +10,7 @@ use Rattle.format.specs.Bits.{bits_at}
 use Rattle.format.proofs.BitLaws.{bits_add, byte_at, field_of}
 use Rattle.plan_packed.specs.Format
 use Rattle.plan_packed.specs.Format.{version, terms, header_spare, volatiles}
-use Rattle.plan_packed.specs.Trees.{program_of_lem}
+use Rattle.plan_packed.specs.Trees.{program_of}
 use Rattle.plan_packed.specs.Check.{refusal}
 use Rattle.plan_packed.proofs.Accepted.{Accepted, accepted}
 use Rattle.plan_written.specs.Written.{bytes_of, version_number, header_of}
@@ -65,9 +65,9 @@ module _ (b : List ℕ) (small : (j : ℕ) → get_or b j 0 < 256) (h : refusal 
   facts : Accepted b
   facts = accepted b h
 
-  header_bits : bits_at b 0 32 ≡ header_of (program_of_lem b)
+  header_bits : bits_at b 0 32 ≡ header_of (program_of b)
   header_bits =
-      let v : version_number (program_of_lem b).version ≡ version b = ap version_number (version_of_lem b h) ∙ version_back (version b) facts.version_known in
+      let v : version_number (program_of b).version ≡ version b = ap version_number (version_of_lem b h) ∙ version_back (version b) facts.version_known in
       let n = count_is b h in
       let m = total_is b h in
       let s = facts.spare_zero in
@@ -80,10 +80,10 @@ module _ (b : List ℕ) (small : (j : ℕ) → get_or b j 0 < 256) (h : refusal 
         procedures_bits b,
         terms_bits b,
         spare_bits b,
-        header_is (program_of_lem b),
+        header_is (program_of b),
       )
 
-  pub first_eight : take 8 b ≡ heads (program_of_lem b)
+  pub first_eight : take 8 b ≡ heads (program_of b)
   first_eight =
       let long : 8 ≤ length b = omega (arith, facts.length_right, plan_length_lem b) in
       take-add 4 4 b

@@ -7,7 +7,7 @@ use lib.ListN.{length}
 use Rattle.format.specs.Refusal.{Refusal, Check, check, check_whole, or_else, first_refusal}
 use Rattle.format.proofs.RefusalLaws.{refusal_append}
 use Rattle.plan_packed.specs.Syntax.{Program}
-use Rattle.plan_packed.specs.Trees.{program_of_lem}
+use Rattle.plan_packed.specs.Trees.{program_of}
 use Rattle.plan_packed.specs.Check.{checks, refusal}
 use Rattle.plan_written.specs.Written.{written_plan}
 use Rattle.plan_written.proofs.OneWay.{passes, same_program}
@@ -30,7 +30,7 @@ module _ (schedule log : List ℕ) where
       refusal_append (schedule_checks plan schedule) (log_checks schedule log)
       ∙ ap (λ (r : Option Refusal). or_else r (first_refusal (log_checks schedule log))) (refusal_append (checks plan) (pick_checks schedule))
 
-  module _ (plan plan' : List ℕ) (e : refusal plan ≡ refusal plan') (f : program_of_lem plan ≡ program_of_lem plan') where
+  module _ (plan plan' : List ℕ) (e : refusal plan ≡ refusal plan') (f : program_of plan ≡ program_of plan') where
     same_refusal : play_refusal plan schedule log ≡ play_refusal plan' schedule log
     same_refusal =
         refusal_by plan

@@ -10,7 +10,7 @@ use Rattle.plan_packed.specs.Syntax.{Procedure}
 use Rattle.plan_packed.specs.Format
 use Rattle.plan_packed.specs.Format.{terms, parameters, root}
 use Rattle.plan_packed.specs.Inner.Steps.{Right, Ordered, tree_in}
-use Rattle.plan_packed.specs.Trees.{tree_at, procedure_at, procedures_from, program_of_lem}
+use Rattle.plan_packed.specs.Trees.{tree_at, procedure_at, procedures_from, program_of}
 use Rattle.plan_packed.specs.Check.{refusal}
 use Rattle.plan_packed.proofs.Accepted.{Accepted, accepted}
 use Rattle.plan_packed.proofs.Passing.{all_right}
@@ -49,7 +49,7 @@ rest_more b p h = let e : Format.procedures b - p ≡ suc (Format.procedures b -
 rest_none : (b : List ℕ) (p : ℕ) → Format.procedures b ≤ p → rest_from b p ≡ []
 rest_none b p h = let e : Format.procedures b - p ≡ 0 = omega arith in ap (procedures_from b p) e ∙ from_none b p
 
-pub rest_all : (b : List ℕ) → rest_from b 0 ≡ (program_of_lem b).procedures
+pub rest_all : (b : List ℕ) → rest_from b 0 ≡ (program_of b).procedures
 rest_all b = let e : Format.procedures b - 0 ≡ Format.procedures b = omega arith in ap (procedures_from b 0) e ∙ sym (program_procedures b)
 
 -- ---- an accepted plan with its terms in the array

@@ -10,7 +10,7 @@ use Rattle.format.specs.Area.{overwrite}
 use Rattle.format.specs.Refusal.{Refusal}
 use Rattle.plan_packed.specs.Syntax.{Procedure}
 use Rattle.plan_packed.specs.Format
-use Rattle.plan_packed.specs.Trees.{program_of_lem}
+use Rattle.plan_packed.specs.Trees.{program_of}
 use Rattle.plan_packed.specs.Check.{refusal}
 use Rattle.plan_refusals.specs.Answer as refusals
 use Rattle.plan_refusals.specs.declared.Checked.{Checked}
@@ -36,8 +36,8 @@ unfolding written_plan
 area_whole plan area small h long =
     let n = Format.procedures plan in
     ap (λ (l : List ℕ). trees_written plan 0 0 (sets area 0 l)) (first_eight plan small h)
-    ∙ ap (λ (ds : List Procedure). both 8 (8 + 2 * n + 5 * 0) 0 ds (sets area 0 (heads (program_of_lem plan)))) (rest_all plan)
-    ∙ plan_whole (program_of_lem plan) n area (count_is plan h) (omega (arith, same_length plan h, count_is plan h, whole_length (program_of_lem plan)))
+    ∙ ap (λ (ds : List Procedure). both 8 (8 + 2 * n + 5 * 0) 0 ds (sets area 0 (heads (program_of plan)))) (rest_all plan)
+    ∙ plan_whole (program_of plan) n area (count_is plan h) (omega (arith, same_length plan h, count_is plan h, whole_length (program_of plan)))
 
 -- ---- the answer
 

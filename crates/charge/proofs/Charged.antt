@@ -9,7 +9,7 @@ use lib.ListN.{length}
 use borrow.Author.Tests.{le-ltb}
 use Rattle.format.specs.Refusal.{Refusal, lowest, refuse, or_else, first_refusal}
 use Rattle.format.proofs.LowestLaws.{whole_none}
-use Rattle.plan_packed.specs.Trees.{program_of_lem}
+use Rattle.plan_packed.specs.Trees.{program_of}
 use Rattle.plan_refusals.specs.declared.Checked.{Checked}
 use Rattle.plan_refusals.specs.declared.Checked.TheVariants as checked
 use Rattle.rules.specs.Run as run

@@ -1,7 +1,7 @@
 -- What a checked plan is charged (document 02, E13): "Quotes are made from the move count. Given are plan, schedule and option, under checks 1 to 9." Assumes
 -- nothing.
 use Rattle.std.specs.Prelude.{ℕ, Bool, List}
-use Rattle.plan_packed.specs.Trees.{program_of_lem}
+use Rattle.plan_packed.specs.Trees.{program_of}
 use Rattle.rules.specs.Run.{Stop, Outcome, outcome_of}
 use Rattle.rules.specs.Play.{schedule_refusal, run_of}
 use Rattle.answers.specs.Answer.{Answer, answer_by}
@@ -21,5 +21,5 @@ charge_of option x = price_by option x.stop x.moves
 
 -- the answer: a refusal of number 1 to 9, or cents
 unfoldable pub charged : List ℕ → List ℕ → Bool → Answer
-unfolding charge_of outcome_of run_of program_of_lem schedule_refusal answer_by
-charged plan schedule option = answer_by (schedule_refusal plan schedule) (charge_of option (outcome_of (program_of_lem plan) (run_of plan schedule)))
+unfolding charge_of outcome_of run_of program_of schedule_refusal answer_by
+charged plan schedule option = answer_by (schedule_refusal plan schedule) (charge_of option (outcome_of (program_of plan) (run_of plan schedule)))

@@ -11,7 +11,7 @@ use Rattle.format.specs.Refusal.{Refusal, Check, check_whole, first_refusal, or_
 use Rattle.format.proofs.RefusalLaws.{both_none, head_pass, tail_pass, none_is_pass, refusal_append}
 use Rattle.run_keys.specs.Keys.{singleton}
 use Rattle.plan_packed.specs.Syntax.{Expression, Arguments}
-use Rattle.plan_packed.specs.Trees.{program_of_lem}
+use Rattle.plan_packed.specs.Trees.{program_of}
 use Rattle.plan_packed.specs.Check.{checks, refusal}
 use Rattle.rules.specs.Queue.{awake}
 use Rattle.rules.specs.State.{Thread, start}
@@ -33,7 +33,7 @@ use Rattle.costs.proofs.Whileless.{bodies_loopless}
 
 -- checks 21 to 23
 abbrev pub later_checks : List ℕ → List Check
-later_checks b = check_whole 21 (cyclic (program_of_lem b)) ∷ check_whole 22 (has_while b) ∷ check_whole 23 (over_most (total (program_of_lem b))) ∷ []
+later_checks b = check_whole 21 (cyclic (program_of b)) ∷ check_whole 22 (has_while b) ∷ check_whole 23 (over_most (total (program_of b))) ∷ []
 
 -- after 1 to 7
 pub bound_stages : (b : List ℕ) → bound_refusal b ≡ or_else (refusal b) (first_refusal (later_checks b))
@@ -43,28 +43,28 @@ bound_stages b = refusal_append (checks b) (later_checks b)
 -- a plan with a total
 pub record Totalled (b : List ℕ) (n : ℕ) : Type 0 where
   pub accepted : refusal b ≡ none
-  pub acyclic : cyclic (program_of_lem b) ≡ false
+  pub acyclic : cyclic (program_of b) ≡ false
   pub whileless : has_while b ≡ false
   pub most : n ≤ 65535
-  pub total_of : n ≡ total (program_of_lem b)
+  pub total_of_lem : n ≡ total (program_of b)
 
 pub totalled : (b : List ℕ) (n : ℕ) → bounded b ≡ value n → Totalled b n
 unfolding bounded answer_by over_most
 totalled b n h = go (bound_refusal b) refl h
   where
-    go : (r : Option Refusal) → bound_refusal b ≡ r → answer_by r (total (program_of_lem b)) ≡ value n → Totalled b n
+    go : (r : Option Refusal) → bound_refusal b ≡ r → answer_by r (total (program_of b)) ≡ value n → Totalled b n
     go (some r) e k = absurd (true≢false cc)
     go none e k =
         let s = both_none (refusal b) (first_refusal (later_checks b)) (sym (bound_stages b) ∙ e) in
         let p = (none_is_pass (later_checks b)).0 s.1 in
-        let t : total (program_of_lem b) ≡ n = cc in
+        let t : total (program_of b) ≡ n = cc in
         let o = (head_pass (tail_pass (tail_pass p))).right 0 (omega arith) in
         record {
           accepted = s.0;
           acyclic = (head_pass p).right 0 (omega arith);
           whileless = (head_pass (tail_pass p)).right 0 (omega arith);
-          most = along (λ (x : ℕ). x ≤ 65535) t (ltb-false 65535 (total (program_of_lem b)) o);
-          total_of = sym t;
+          most = along (λ (x : ℕ). x ≤ 65535) t (ltb-false 65535 (total (program_of b)) o);
+          total_of_lem = sym t;
         }
 
 -- ---- "No schedule makes more moves, forked threads included."
@@ -81,21 +81,21 @@ pub no_more_moves : (b : List ℕ) (n : ℕ) → bounded b ≡ value n → (ps :
 unfolding start measure run_of total
 no_more_moves b n h ps =
     let k = totalled b n h in
-    let B = body_cost (program_of_lem b) (procedure_count (program_of_lem b)) in
-    let x = execution_bound B (program_of_lem b) (fixed (program_of_lem b) k.acyclic) (bodies_loopless b k.accepted k.whileless) main_simple
+    let B = body_cost (program_of b) (procedure_count (program_of b)) in
+    let x = execution_bound B (program_of b) (fixed (program_of b) k.acyclic) (bodies_loopless b k.accepted k.whileless) main_simple
     (plan_executes b k.accepted ps) in
     let t = k.total_of in
     omega arith
 
 -- the outcome's count too
-pub no_more_counted : (b : List ℕ) (n : ℕ) → bounded b ≡ value n → (ps : List ℕ) → (outcome_of (program_of_lem b) (run_of b ps)).moves ≤ n
+pub no_more_counted : (b : List ℕ) (n : ℕ) → bounded b ≡ value n → (ps : List ℕ) → (outcome_of (program_of b) (run_of b ps)).moves ≤ n
 unfolding outcome_of
 no_more_counted b n h ps = no_more_moves b n h ps
 
 -- "The total is main's body and 1.", where "a call adds the called body", whatever says what bodies cost
-pub total_right : (b : List ℕ) (n : ℕ) → bounded b ≡ value n → (B : ℕ → ℕ) → Costs (program_of_lem b) B → n ≡ suc (B 0)
-total_right b n h B C = let k = totalled b n h in k.total_of ∙ total_is (program_of_lem b) B C k.acyclic
+pub total_right : (b : List ℕ) (n : ℕ) → bounded b ≡ value n → (B : ℕ → ℕ) → Costs (program_of b) B → n ≡ suc (B 0)
+total_right b n h B C = let k = totalled b n h in k.total_of ∙ total_is (program_of b) B C k.acyclic
 
 -- and something does
-pub costs_there : (b : List ℕ) (n : ℕ) → bounded b ≡ value n → (B : ℕ → ℕ) × Costs (program_of_lem b) B
-costs_there b n h = (body_cost (program_of_lem b) (procedure_count (program_of_lem b)), fixed (program_of_lem b) (totalled b n h).acyclic)
+pub costs_there : (b : List ℕ) (n : ℕ) → bounded b ≡ value n → (B : ℕ → ℕ) × Costs (program_of b) B
+costs_there b n h = (body_cost (program_of b) (procedure_count (program_of b)), fixed (program_of b) (totalled b n h).acyclic)

@@ -8,7 +8,7 @@ use lib.Dec.{lit<}
 use lib.ListN.{get_elem?}
 use Rattle.plan_packed.specs.Syntax.{Expression, Condition, Arguments, Procedure}
 use Rattle.plan_packed.specs.Format.{root, tag_at}
-use Rattle.plan_packed.specs.Trees.{ExpressionNode, Node, nodes, node_at, Stands, Standsᶜ, Standsᵃ, tree_at, procedure_at, program_of_lem}
+use Rattle.plan_packed.specs.Trees.{ExpressionNode, Node, nodes, node_at, Stands, Standsᶜ, Standsᵃ, tree_at, procedure_at, program_of}
 use Rattle.plan_packed.specs.Check.{refusal}
 use Rattle.plan_packed.proofs.Decoded.{node_is, procedures_inside, accepted_stands}
 use Rattle.plan_packed.proofs.Tags.{by_tag}
@@ -60,7 +60,7 @@ module _ (b : List ℕ) (a : refusal b ≡ none) (h : has_while b ≡ false) whe
   unfolding has_while
   no_while t i j e = no_tag b a 7 (lit< tt) h t (tag_while _ _ _ i j (tag_at b t) (sym (node_is b t (tag_at b t) refl) ∙ e))
 
-  pub bodies_loopless : (m : ℕ) (d : Procedure) → get_elem? (program_of_lem b).procedures m ≡ some d → Loopless d.body
+  pub bodies_loopless : (m : ℕ) (d : Procedure) → get_elem? (program_of b).procedures m ≡ some d → Loopless d.body
   unfolding procedure_at
   bodies_loopless m d e =
       let k = procedures_inside b m d e in

@@ -63,9 +63,9 @@ bits_drop k l i zero = refl
 bits_drop k l i (suc w) = rw (bits_drop k l i w, bit_drop k l (i + w), ← add_assoc (k * 8) i w)
 
 -- a byte
-bit_of : (l : List ℕ) (i j : ℕ) → j < 8 → bit_at l (i * 8 + j) ≡ get_or l i 0 / 2 ^ (7 - j) % 2
+bit_of_lem : (l : List ℕ) (i j : ℕ) → j < 8 → bit_at l (i * 8 + j) ≡ get_or l i 0 / 2 ^ (7 - j) % 2
 unfolding bit_at
-bit_of l i j h =
+bit_of_lem l i j h =
     let q : (i * 8 + j) / 8 ≡ i = omega arith in
     let m : (i * 8 + j) % 8 ≡ j = omega arith in
     rw (q, m)
@@ -78,7 +78,7 @@ byte_top l i (suc w) h n =
     let m : 8 - suc w ≡ 7 - w = omega arith in
     let k : 7 - w + 1 ≡ 8 - w = omega arith in
     let half : get_or l i 0 / 2 ^ (7 - w) / 2 ≡ get_or l i 0 / 2 ^ (8 - w) = rw k at (shr-shr (get_or l i 0) (7 - w) 1) in
-    rw m (omega (arith, byte_top l i w h (omega arith), bit_of l i w (omega arith)))
+    rw m (omega (arith, byte_top l i w h (omega arith), bit_of_lem l i w (omega arith)))
 
 pub byte_at : (l : List ℕ) (i : ℕ) → get_or l i 0 < 256 → bits_at l (i * 8) 8 ≡ get_or l i 0
 byte_at l i h = byte_top l i 8 h (omega arith) ∙ div-one (get_or l i 0)

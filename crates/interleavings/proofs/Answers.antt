@@ -14,7 +14,7 @@ use Rattle.format.proofs.AreaLaws.{overwrite_only}
 use Rattle.format.proofs.RefusalLaws.{refusal_append}
 use Rattle.plan_packed.specs.Syntax.{Program}
 use Rattle.plan_packed.specs.Format.{terms}
-use Rattle.plan_packed.specs.Trees.{program_of_lem}
+use Rattle.plan_packed.specs.Trees.{program_of}
 use Rattle.plan_packed.specs.Check.{checks, refusal}
 use Rattle.plan_packed.specs.Inner.Steps.{Loaded}
 use Rattle.plan_refusals.specs.Answer as check
@@ -50,9 +50,9 @@ module _ (plan : List ℕ) (n : ℕ) (area : List ℕ) (r : Checked) (h : check.
 
   pub first_begins : (words : List ℕ) → Loaded plan (terms plan) words → n ≤ 64 → n ≤ length area → Begins plan words n area 0
   first_begins words l b s =
-      record { accepted = accepted_plan words l; bound = b; long = s; within = omega arith; way = no_picks (can_follow (program_of_lem plan)) }
+      record { accepted = accepted_plan words l; bound = b; long = s; within = omega arith; way = no_picks (can_follow (program_of plan)) }
 
-  pub first_written : n ≤ 64 → n ≤ length area → (after : List ℕ) (at : ℕ) → Reached (program_of_lem plan) n 0 area after at
+  pub first_written : n ≤ 64 → n ≤ length area → (after : List ℕ) (at : ℕ) → Reached (program_of plan) n 0 area after at
       → FirstAnswer plan n area (answer.value at) after
   first_written b s after at x =
       let qs = take at after in
@@ -60,7 +60,7 @@ module _ (plan : List ℕ) (n : ℕ) (area : List ℕ) (r : Checked) (h : check.
       let a : after ≡ overwrite qs area =
       overwrite_only qs area after (ap (λ (k : ℕ). take k after) m) (ap (λ (k : ℕ). drop k after) m ∙ x.rest
       ∙ ap (λ (k : ℕ). drop k area) (sym m)) in
-      let f : First (program_of_lem plan) n qs = record { has = x.listed; least = λ rs l. x.least rs l (empty_lowest rs) } in
+      let f : First (program_of plan) n qs = record { has = x.listed; least = λ rs l. x.least rs l (empty_lowest rs) } in
       along (λ (k : ℕ). FirstAnswer plan n area (answer.value k) after) m
       (along (FirstAnswer plan n area (answer.value (length qs))) (sym a) (FirstAnswer.WRITTEN (first_none plan n area r h e b s) f))
 
@@ -88,7 +88,7 @@ module _ (g : Program) (n : ℕ) (ps : List ℕ) (x : Listed g n ps) (area : Lis
     pub still_long : n ≤ length middle
     still_long = omega (arith, w.kept)
 
-    pub begins : (plan words : List ℕ) → program_of_lem plan ≡ g → Accepted plan words → n ≤ 64 → Begins plan words n middle from
+    pub begins : (plan words : List ℕ) → program_of plan ≡ g → Accepted plan words → n ≤ 64 → Begins plan words n middle from
     begins plan words q a b =
         let h = t.inside in
         record {
@@ -135,8 +135,8 @@ module _
     pub given_picks : OfEight schedule
     given_picks j b = let k = (scheduled_by_code plan schedule r h e).small j b in omega arith
 
-    pub next_followed : n ≤ 64 → Listed (program_of_lem plan) n schedule → n ≤ length area → (after : List ℕ) (a : Next)
-        → Followed (program_of_lem plan) n schedule area after a → NextAnswer plan n schedule area (answered a) after
+    pub next_followed : n ≤ 64 → Listed (program_of plan) n schedule → n ≤ length area → (after : List ℕ) (a : Next)
+        → Followed (program_of plan) n schedule area after a → NextAnswer plan n schedule area (answered a) after
     next_followed b l s after (next.Refused k i) f = absurd f
     next_followed b l s after (next.Written m) (qs, f, d, q) =
         along (λ (k : ℕ). NextAnswer plan n schedule area (papers.Next.written k) after) (sym d)

@@ -10,7 +10,7 @@ use mathlib.Core.Option.{Option, some, none}
 use lib.ListN.{length, get_elem?, take}
 use Rattle.format.proofs.AreaLaws.{overwrite_first, overwrite_covers}
 use Rattle.plan_packed.specs.Syntax.{Program}
-use Rattle.plan_packed.specs.Trees.{program_of_lem}
+use Rattle.plan_packed.specs.Trees.{program_of}
 use Rattle.text.specs.Inner.Wrote.{Wrote}
 use Rattle.listing.specs.Listed.{Listed, Following, Over}
 use Rattle.listing.specs.WholeList.{WholeList}
@@ -32,7 +32,7 @@ inside (x ∷ L) (suc i) ps e = let h = inside L i ps e in omega arith
 
 module _ {plan words : List ℕ} {n : ℕ} {area : List ℕ} {picks place : ℕ} (s : Stands plan words n area picks place) where
   abbrev g : Program
-  g = program_of_lem plan
+  g = program_of plan
 
   same : take picks area ≡ take (picks - 0) area
   same = ap (λ (k : ℕ). take k area) (sym (sub-zero picks))
@@ -92,7 +92,7 @@ module _ {plan words : List ℕ} {n : ℕ} {area : List ℕ} {picks place : ℕ}
 
 -- the first
 pub stands_first : (plan words : List ℕ) (n : ℕ) (room after : List ℕ) (at : ℕ) → Accepted plan words → n ≤ 64 → 64 ≤ length room
-    → Reached (program_of_lem plan) n 0 room after at → Stands plan words n after at 0
+    → Reached (program_of plan) n 0 room after at → Stands plan words n after at 0
 stands_first plan words n room after at a b h x =
     record {
       accepted = a;
@@ -100,11 +100,11 @@ stands_first plan words n room after at a b h x =
       long = omega (arith, h, x.kept);
       few = omega (arith, x.within, b);
       listed = x.listed;
-      at_place = λ L l. at_first (program_of_lem plan) n l.begins (record { has = x.listed; least = λ rs k. x.least rs k (empty_lowest rs) });
+      at_place = λ L l. at_first (program_of plan) n l.begins (record { has = x.listed; least = λ rs k. x.least rs k (empty_lowest rs) });
     }
 
 -- the answer
 pub count_answer : (plan : List ℕ) (n limit : ℕ) → count_refused plan n ≡ none → (r : Counted) → CountsOn plan n limit r → CountAnswer plan n limit r
 count_answer plan n limit e (counted.Refused k i) x = absurd x
-count_answer plan n limit e (counted.All r) (x, h) = let l = whole_list (program_of_lem plan) n in (e, l.0, l.1, x l.0 l.1, h)
-count_answer plan n limit e counted.More x = let l = whole_list (program_of_lem plan) n in (e, l.0, l.1, x l.0 l.1)
+count_answer plan n limit e (counted.All r) (x, h) = let l = whole_list (program_of plan) n in (e, l.0, l.1, x l.0 l.1, h)
+count_answer plan n limit e counted.More x = let l = whole_list (program_of plan) n in (e, l.0, l.1, x l.0 l.1)

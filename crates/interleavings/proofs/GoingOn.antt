@@ -11,7 +11,7 @@ use lib.ListN.{length, length-append, length-set, get_or, set, take, drop, get_o
 use lib.Seq.{length-take-le, take_all, take-append-le, take-take, take-suc, take-set-le, drop-set-lt, drop-drop}
 use lib.Seq.{get_or-take, get_or-set_same, get_or-set_other, ext_get_or}
 use Rattle.plan_packed.specs.Syntax.{Program}
-use Rattle.plan_packed.specs.Trees.{program_of_lem}
+use Rattle.plan_packed.specs.Trees.{program_of}
 use Rattle.run_engine.specs.declared.Explored.{Explored}
 use Rattle.run_engine.specs.Inner.Exploring.{all_picks}
 use Rattle.run_engine.proofs.AllPicks.{length_all, given_at, noted_at}
@@ -49,7 +49,7 @@ module _ {plan words : List ℕ} {n : ℕ} {before : List ℕ} {from : ℕ} (b :
 module _ {plan words : List ℕ} {n : ℕ} {before : List ℕ} {from : ℕ} (b : Begins plan words n before from) {first empty notes : List ℕ} {r : Explored}
     (x : Explores plan first empty notes r) (f : first ≡ take from before) (long : length empty ≡ n) where
   abbrev g : Program
-  g = program_of_lem plan
+  g = program_of plan
 
   abbrev ps : List ℕ
   ps = all_picks first notes

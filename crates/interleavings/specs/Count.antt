@@ -2,7 +2,7 @@
 use Rattle.std.specs.Prelude.{ℕ, ◌≤◌, ◌<◌, ◌≡◌, List, [], ◌∷◌, ◌++◌, length}
 use Rattle.std.proofs.Math.Option.{Option, some, none}
 use Rattle.format.specs.Refusal.{Refusal, check_whole, first_refusal}
-use Rattle.plan_packed.specs.Trees.{program_of_lem}
+use Rattle.plan_packed.specs.Trees.{program_of}
 use Rattle.plan_packed.specs.Check.{checks}
 use Rattle.listing.specs.WholeList.{WholeList}
 use Rattle.listing_answers.specs.Interleavings.{over_bound}
@@ -18,5 +18,5 @@ count_refused plan n = first_refusal (checks plan ++ (check_whole 18 (over_bound
 abbrev pub CountAnswer : (plan : List ℕ) → (n limit : ℕ) → Counted → Type 0
 CountAnswer plan n limit (counted.Refused number place) = count_refused plan n ≡ some (record { number = number; place = place })
 CountAnswer plan n limit (counted.All r) =
-    (count_refused plan n ≡ none) × (L : List (List ℕ)) × WholeList (program_of_lem plan) n L × (r ≡ length L) × (r ≤ limit)
-CountAnswer plan n limit counted.More = (count_refused plan n ≡ none) × (L : List (List ℕ)) × WholeList (program_of_lem plan) n L × (limit < length L)
+    (count_refused plan n ≡ none) × (L : List (List ℕ)) × WholeList (program_of plan) n L × (r ≡ length L) × (r ≤ limit)
+CountAnswer plan n limit counted.More = (count_refused plan n ≡ none) × (L : List (List ℕ)) × WholeList (program_of plan) n L × (limit < length L)

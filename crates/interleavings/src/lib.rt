@@ -13,7 +13,7 @@ use plan_refusals::Checked;
 use run_place_notes::Departure;
 
 // What `next_interleaving` answers.
-#[derive(Drop)]
+#[derive(Clone, Copy)]
 pub enum Next {
     // It is refused: document 01's number and place.
     Refused { number: usize, place: usize },
@@ -24,7 +24,7 @@ pub enum Next {
 }
 
 // What `count` answers.
-#[derive(Drop)]
+#[derive(Clone, Copy)]
 pub enum Counted {
     // It is refused: document 01's number and place.
     Refused { number: usize, place: usize },

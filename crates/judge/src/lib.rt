@@ -8,7 +8,7 @@ ghost use Rattle.log_conflicts.specs.Judge.{Answers, AnswersTold};
 ghost use Rattle.judge.specs.Answer.{answered};
 
 // What the judge answers to a log.
-#[derive(Drop)]
+#[derive(Clone, Copy)]
 pub enum Judgement {
     // The log is refused: document 01's number of the refusal, and its place.
     Refused { number: usize, place: usize },

@@ -14,7 +14,7 @@ use log_effects::Taking;
 use log_records::kind;
 
 // What a pass finds.
-#[derive(Drop)]
+#[derive(Clone, Copy)]
 pub enum Found {
     // The record with this index is the first unordered access.
     Access(usize),
@@ -48,8 +48,8 @@ fn ended(taking: Taking) -> bool
 
 // The pass over a log that is not refused, by its version. The table is lent, clear, with rows for so many places.
 fn pass(log: &[u8], version: usize, places: u16, table: &mut [Row]) -> Found
-    requires fact_1 { log_refusal log.now ≡ none }
-    requires fact_2 { Clear places table.old }
+    requires accepted { log_refusal log.now ≡ none }
+    requires clear { Clear places table.old }
     ensures { Finds (version_of version) log.now places result }
 {
     let count = log.len() / 3;
@@ -172,8 +172,8 @@ fn full(found: Found) -> bool
 
 // The answer to a log of at most 64 records: rows for as many places as it can be at, since clearing more would take longer than judging it.
 pub fn short(log: &[u8], version: usize) -> Judgement
-    requires fact_1 { log_refusal log.now ≡ none }
-    requires fact_2 { length log.now / 3 ≤ 64 }
+    requires accepted { log_refusal log.now ≡ none }
+    requires short { length log.now / 3 ≤ 64 }
     ensures { Answers (version_of version) log.now (answered result) }
 {
     let count = log.len() / 3;
@@ -195,8 +195,8 @@ pub fn short(log: &[u8], version: usize) -> Judgement
 
 // The answer to a log of at most 128 records, in the same way.
 pub fn middle(log: &[u8], version: usize) -> Judgement
-    requires fact_1 { log_refusal log.now ≡ none }
-    requires fact_2 { length log.now / 3 ≤ 128 }
+    requires accepted { log_refusal log.now ≡ none }
+    requires short { length log.now / 3 ≤ 128 }
     ensures { Answers (version_of version) log.now (answered result) }
 {
     let found = by_one_hundred_twenty_eight(log, version);

@@ -11,7 +11,7 @@ use lib.Seq.{get_or-take}
 use Rattle.format.specs.Area.{overwrite}
 use Rattle.run_keys.specs.Inner.KeySet.{keys_of}
 use Rattle.plan_packed.specs.Format.{procedures, terms, root}
-use Rattle.plan_packed.specs.Trees.{program_of_lem}
+use Rattle.plan_packed.specs.Trees.{program_of}
 use Rattle.plan_packed.specs.Check.{refusal}
 use Rattle.plan_packed.specs.Inner.Steps as steps
 use Rattle.plan_packed.proofs.Decoded.{well_formed}
@@ -57,30 +57,30 @@ module _ (plan area ws rs : List ℕ) (ok : refusal plan ≡ none) (loaded : Wor
   related = stands_for plan ws rs ok loaded ps 0 small (start_of false rs area) playing.start (start_related plan ws rs ok loaded false area)
       (start_reached plan ok)
 
-  run_threads : (play (program_of_lem plan) ps).final.threads ≡ map (thread_meant (table_of plan)) final.threads
+  run_threads : (play (program_of plan) ps).final.threads ≡ map (thread_meant (table_of plan)) final.threads
   run_threads = ap (λ (r : Run). r.final.threads) (plays plan ok ps)
 
   -- a thread of the abstract machine is one of the run, with its set
   thread_of_lem : (t : ℕ) (x : machine.Thread) → get_elem? final.threads t ≡ some x
-      → get_elem? (play (program_of_lem plan) ps).final.threads t ≡ some (thread_meant (table_of plan) x)
+      → get_elem? (play (program_of plan) ps).final.threads t ≡ some (thread_meant (table_of plan) x)
   thread_of_lem t x h =
       ap (λ (l : List Thread). get_elem? l t) run_threads
       ∙ get_map (thread_meant (table_of plan)) final.threads t
       ∙ ap (λ (y : Option machine.Thread). Option.map (thread_meant (table_of plan)) y) h
 
-  threads_counted : (engine_of here).tally.counts.threads ≡ length (play (program_of_lem plan) ps).final.threads
+  threads_counted : (engine_of here).tally.counts.threads ≡ length (play (program_of plan) ps).final.threads
   threads_counted =
       related.kept.threads_count
       ∙ sym (ap (λ (l : List Thread). length l) run_threads ∙ length-map final.threads (thread_meant (table_of plan)))
 
   set_of_lem : (t : ℕ) → t < (engine_of here).tally.counts.threads
-      → HoldsJust (program_of_lem plan).version (log (play (program_of_lem plan) ps)) t (keys_of (head_at (engine_of here).heads t).keys)
+      → HoldsJust (program_of plan).version (log (play (program_of plan) ps)) t (keys_of (head_at (engine_of here).heads t).keys)
   set_of_lem t h =
       let x = thread-at final.threads t (let e = related.kept.threads_count in omega arith) in
-      along (HoldsJust (program_of_lem plan).version (log (play (program_of_lem plan) ps)) t) (sym (related.each t x.0 x.1).keys)
-      (every_set_played (program_of_lem plan) (well_formed plan ok) ps t (thread_meant (table_of plan) x.0) (thread_of_lem t x.0 x.1))
+      along (HoldsJust (program_of plan).version (log (play (program_of plan) ps)) t) (sym (related.each t x.0 x.1).keys)
+      (every_set_played (program_of plan) (well_formed plan ok) ps t (thread_meant (table_of plan) x.0) (thread_of_lem t x.0 x.1))
 
-  log_there : area_of here ≡ overwrite (bytes_of (log (play (program_of_lem plan) ps))) area
+  log_there : area_of here ≡ overwrite (bytes_of (log (play (program_of plan) ps))) area
   log_there =
       area_here ws rs (setting_of plan) (0 + length ps) here
       ∙ ap (λ (r : Played). r.area) (sym (plays_on ws rs (setting_of plan) ps [] (start_of false rs area) 0))

@@ -6,7 +6,7 @@ use mathlib.Core.Path.{◌≡◌, refl, sym, ap, ◌∙◌, subst as along}
 use mathlib.Core.List.{List, [], ◌∷◌, ◌++◌}
 use mathlib.Core.Option.{none}
 use lib.ListN.{length, get_or}
-use Rattle.plan_packed.specs.Trees.{program_of_lem}
+use Rattle.plan_packed.specs.Trees.{program_of}
 use Rattle.plan_packed.specs.Check.{refusal}
 use Rattle.machine.specs.Inner.Machine as machine
 use Rattle.machine.specs.Inner.Playing as playing
@@ -58,9 +58,9 @@ module _ (b ws rs : List ℕ) (ok : refusal b ≡ none) (loaded : WordsAndRoots 
   abbrev run_from : List ℕ → machine.State → playing.Run
   run_from ps s = playing.run (table_of b) s ps
 
-  module _ (m : EngineState) (s : machine.State) (rel : Related b m s) (reach : Reached (table_of b) (program_of_lem b) s) (p : ℕ) (small : p < 8) (ps : List ℕ)
+  module _ (m : EngineState) (s : machine.State) (rel : Related b m s) (reach : Reached (table_of b) (program_of b) s) (p : ℕ) (small : p < 8) (ps : List ℕ)
       (i : ℕ)
-      (rest : (m : EngineState) (s : machine.State) → Related b m s → Reached (table_of b) (program_of_lem b) s
+      (rest : (m : EngineState) (s : machine.State) → Related b m s → Reached (table_of b) (program_of b) s
       → Related b (engine_of (after_picks m ps (i + 1))) (run_from ps s).final) where
     -- where the run on numbers and the abstract machine stand after the pick and the rest, by its answer
     abbrev Stands : PickAnswer → Stack → playing.PickAnswer → Type 0
@@ -88,7 +88,7 @@ module _ (b ws rs : List ℕ) (ok : refusal b ≡ none) (loaded : WordsAndRoots 
 
   -- after any picks it stands for where the abstract machine's run stands
   pub stands_for : (ps : List ℕ) (i : ℕ) → ((j : ℕ) → j < length ps → get_or ps j 0 ≤ 7)
-      → (m : EngineState) (s : machine.State) → Related b m s → Reached (table_of b) (program_of_lem b) s
+      → (m : EngineState) (s : machine.State) → Related b m s → Reached (table_of b) (program_of b) s
       → Related b (engine_of (after_picks m ps i)) (run_from ps s).final
   unfolding standing playing.run playing.stopped
   stands_for [] i small m s rel reach = rel

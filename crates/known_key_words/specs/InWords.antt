@@ -3,7 +3,7 @@
 use Rattle.std.specs.Prelude.{ℕ, ◌<◌, ◌≡◌, false, List, length, take}
 use Rattle.format.specs.Area.{overwrite}
 use Rattle.run_keys.specs.Inner.KeySet.{keys_of}
-use Rattle.plan_packed.specs.Trees.{program_of_lem}
+use Rattle.plan_packed.specs.Trees.{program_of}
 use Rattle.log_records.specs.Packed.{bytes_of}
 use Rattle.rules.specs.Run.{log}
 use Rattle.rules.specs.Play.{run_of}
@@ -18,7 +18,7 @@ pub record InWords (plan picks area : List ℕ) (s : Standing) : Type 0 where
   pub present : (engine_of s).tally.counts.threads ≡ length (run_of plan picks).final.threads
   -- its "set": the one that the four words of its head stand for
   pub sets : (t : ℕ) → t < (engine_of s).tally.counts.threads
-      → HoldsJust (program_of_lem plan).version (log (run_of plan picks)) t (keys_of (head_at (engine_of s).heads t).keys)
+      → HoldsJust (program_of plan).version (log (run_of plan picks)) t (keys_of (head_at (engine_of s).heads t).keys)
   -- "the log": the area begins with its records
   pub log : area_of s ≡ overwrite (bytes_of (log (run_of plan picks))) area
 

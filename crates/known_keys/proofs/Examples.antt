@@ -6,7 +6,7 @@ use mathlib.Core.Option.{Option, none}
 use Rattle.format.specs.Version.{Version}
 use Rattle.format.specs.Refusal.{Refusal}
 use Rattle.run_keys.specs.Keys.{Keys, holds, count_new}
-use Rattle.plan_packed.specs.Trees.{program_of_lem}
+use Rattle.plan_packed.specs.Trees.{program_of}
 use Rattle.plan_packed.specs.Check.{refusal}
 use Rattle.log_records.specs.Record.{Record}
 use Rattle.rules.specs.State.{Thread}
@@ -46,10 +46,10 @@ abbrev by_log : Example → Came
 by_log x = record {
   refused = none;
   last = x.sets;
-  every = map (λ (ps : List ℕ). let r = run_of x.plan ps in by_log_from (program_of_lem x.plan).version (log r) 0 r.final.threads) (moments x.picks);
+  every = map (λ (ps : List ℕ). let r = run_of x.plan ps in by_log_from (program_of x.plan).version (log r) 0 r.final.threads) (moments x.picks);
 }
 
 -- every plan passes the check, the sets come out as the row says, and at every moment the run's sets are those of its log
 examples_come_out : map by_run examples ≡ map by_log examples
-unfolding examples refusal run_of log program_of_lem keys_by_log holds count_new
+unfolding examples refusal run_of log program_of keys_by_log holds count_new
 examples_come_out = refl

@@ -6,7 +6,7 @@ use Rattle.std.proofs.Math.Option.{some}
 use Rattle.std.proofs.Math.ListN.{get_elem?}
 use Rattle.format.specs.Version.{Version}
 use Rattle.run_keys.specs.Keys.{Keys, holds}
-use Rattle.plan_packed.specs.Trees.{program_of_lem}
+use Rattle.plan_packed.specs.Trees.{program_of}
 use Rattle.log_records.specs.Record.{new, Record}
 use Rattle.log_order.specs.Chains.{Chain}
 use Rattle.rules.specs.State.{Thread}
@@ -41,4 +41,4 @@ EverySet v r = (t : ℕ) (x : Thread) → get_elem? r.final.threads t ≡ some x
 
 -- "After every pick" of the run of the schedule on the plan: the run of its first n picks, for every n. One that has stopped stands where it stopped.
 abbrev pub AfterEveryPick : (plan schedule : List ℕ) → Type 0
-AfterEveryPick plan schedule = (n : ℕ) → EverySet (program_of_lem plan).version (run_of plan (take n schedule))
+AfterEveryPick plan schedule = (n : ℕ) → EverySet (program_of plan).version (run_of plan (take n schedule))

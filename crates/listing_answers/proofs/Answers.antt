@@ -10,7 +10,7 @@ use Rattle.format.specs.Refusal.{Refusal, Check, check_whole, or_else, lowest, r
 use Rattle.format.specs.Area.{overwrite}
 use Rattle.format.proofs.LowestLaws.{whole, whole_none}
 use Rattle.format.proofs.RefusalLaws.{refusal_append}
-use Rattle.plan_packed.specs.Trees.{program_of_lem}
+use Rattle.plan_packed.specs.Trees.{program_of}
 use Rattle.plan_packed.specs.Check.{checks, refusal}
 use Rattle.plan_refusals.specs.Answer as check
 use Rattle.plan_refusals.specs.declared.Checked.{Checked}
@@ -103,16 +103,16 @@ module _ (plan : List ℕ) (n : ℕ) (schedule area : List ℕ) where
         unfolding over_bound first_refusal
         next_none = next_stages ∙ then_other _ _ (passed_is _ r h e) ∙ passes 18 (over_bound n) [] (le-ltb 64 n b)
 
-        pub next_not_listed : (Listed (program_of_lem plan) n schedule → ⊥) → NextAnswer plan n schedule area (papers.Next.refused (numbered 19)) area
+        pub next_not_listed : (Listed (program_of plan) n schedule → ⊥) → NextAnswer plan n schedule area (papers.Next.refused (numbered 19)) area
         next_not_listed l = NextAnswer.NOT-LISTED next_none l
 
-        module _ (l : Listed (program_of_lem plan) n schedule) where
+        module _ (l : Listed (program_of plan) n schedule) where
           pub next_short : length area < n → NextAnswer plan n schedule area (papers.Next.refused (numbered 20)) area
           next_short s = NextAnswer.SHORT next_none l s
 
-          pub next_written : n ≤ length area → (qs : List ℕ) → Following (program_of_lem plan) n schedule qs
+          pub next_written : n ≤ length area → (qs : List ℕ) → Following (program_of plan) n schedule qs
               → NextAnswer plan n schedule area (papers.Next.written (length qs)) (overwrite qs area)
           next_written s qs f = NextAnswer.FOLLOWS next_none l s f
 
-          pub next_over : n ≤ length area → Over (program_of_lem plan) n schedule → NextAnswer plan n schedule area papers.Next.over area
+          pub next_over : n ≤ length area → Over (program_of plan) n schedule → NextAnswer plan n schedule area papers.Next.over area
           next_over s f = NextAnswer.OVER next_none l s f

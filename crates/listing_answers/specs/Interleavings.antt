@@ -3,7 +3,7 @@ use Rattle.std.specs.Prelude.{ℕ, ◌≤◌, ◌<◌, ◌≡◌, Bool, List, []
 use Rattle.std.proofs.Math.Option.{Option, some, none}
 use Rattle.format.specs.Refusal.{Refusal, check_whole, first_refusal}
 use Rattle.format.specs.Area.{overwrite}
-use Rattle.plan_packed.specs.Trees.{program_of_lem}
+use Rattle.plan_packed.specs.Trees.{program_of}
 use Rattle.plan_packed.specs.Check.{checks}
 use Rattle.rules.specs.Play.{schedule_checks}
 use Rattle.answers.specs.Answer as answer
@@ -33,7 +33,7 @@ module _ (plan : List ℕ) (n : ℕ) (area : List ℕ) where
     REFUSED : {r : Refusal} → first_refused plan n area ≡ some r → FirstAnswer (answer.refused r) area
     -- the first, and its length; "Bytes past the schedule [..] keep their values."
     WRITTEN : {qs : List ℕ}
-        → first_refused plan n area ≡ none → First (program_of_lem plan) n qs
+        → first_refused plan n area ≡ none → First (program_of plan) n qs
         → FirstAnswer (answer.value (length qs)) (overwrite qs area)
 
 -- ---- "and, given a listed schedule, the following one, or says the list is over"
@@ -53,18 +53,18 @@ module _ (plan : List ℕ) (n : ℕ) (schedule area : List ℕ) where
   pub data NextAnswer : Next → List ℕ → Type 0 where
     REFUSED : {r : Refusal} → next_refused plan n schedule ≡ some r → NextAnswer (refused r) area
     -- "19 the given schedule is not listed"
-    NOT-LISTED : next_refused plan n schedule ≡ none → (Listed (program_of_lem plan) n schedule → ⊥) → NextAnswer (refused (record { number = 19; place = 0 })) area
+    NOT-LISTED : next_refused plan n schedule ≡ none → (Listed (program_of plan) n schedule → ⊥) → NextAnswer (refused (record { number = 19; place = 0 })) area
     -- "20 output shorter than n"
     SHORT : next_refused plan n schedule ≡ none
-        → Listed (program_of_lem plan) n schedule → length area < n
+        → Listed (program_of plan) n schedule → length area < n
         → NextAnswer (refused (record { number = 20; place = 0 })) area
     -- "the following one", and its length; "Bytes past the schedule [..] keep their values."
     FOLLOWS : {qs : List ℕ}
-        → next_refused plan n schedule ≡ none → Listed (program_of_lem plan) n schedule → n ≤ length area
-        → Following (program_of_lem plan) n schedule qs
+        → next_refused plan n schedule ≡ none → Listed (program_of plan) n schedule → n ≤ length area
+        → Following (program_of plan) n schedule qs
         → NextAnswer (written (length qs)) (overwrite qs area)
     -- "or says the list is over": "or all of them where the list is over, keep their values"
     OVER : next_refused plan n schedule ≡ none
-        → Listed (program_of_lem plan) n schedule → n ≤ length area
-        → Over (program_of_lem plan) n schedule
+        → Listed (program_of plan) n schedule → n ≤ length area
+        → Over (program_of plan) n schedule
         → NextAnswer over area

@@ -70,8 +70,8 @@ fn marked(row: Row, thread: usize, mark: u16) -> Row
 
 // The rows of all records of a log that is not refused.
 pub fn rows(version: usize, log: &[u8], heard: &mut [Row])
-    requires fact_1 { log_refusal log.now ≡ none }
-    requires fact_2 { length log.now / 3 ≤ length heard.old }
+    requires accepted { log_refusal log.now ≡ none }
+    requires sized { length log.now / 3 ≤ length heard.old }
     ensures { HeardRows (version_of version) (log_of log.now) (length log.now / 3) heard.new }
 {
     let count = log.len() / 3;

@@ -6,9 +6,9 @@ use log_clocks::Row;
 
 // The newest record of another thread that the record at the index has heard of has itself heard of the newest of this thread.
 fn by(rows: &[Row], index: usize, thread: usize, other: usize) -> bool
-    requires fact_1 { Earlier rows.now index }
-    requires fact_2 { thread < 8 }
-    requires fact_3 { other < 8 }
+    requires earlier { Earlier rows.now index }
+    requires thread_in { thread < 8 }
+    requires other_in { other < 8 }
     ensures { result ≡ implied_by (heard_in rows.now) index thread other }
 {
     if other == thread {
@@ -25,8 +25,8 @@ fn by(rows: &[Row], index: usize, thread: usize, other: usize) -> bool
 
 // The same of one of the threads.
 fn by_one(rows: &[Row], index: usize, thread: usize) -> bool
-    requires fact_1 { Earlier rows.now index }
-    requires fact_2 { thread < 8 }
+    requires earlier { Earlier rows.now index }
+    requires thread_in { thread < 8 }
     ensures { result ≡ implied (heard_in rows.now) index thread 8 }
 {
     let mut found = false;
@@ -40,8 +40,8 @@ fn by_one(rows: &[Row], index: usize, thread: usize) -> bool
 
 // The arrow from the newest record of a thread to the record at the index, which is of the thread `own`, is needed.
 pub fn needed(rows: &[Row], index: usize, own: usize, thread: usize) -> bool
-    requires fact_1 { Earlier rows.now index }
-    requires fact_2 { thread < 8 }
+    requires earlier { Earlier rows.now index }
+    requires thread_in { thread < 8 }
     ensures { result ≡ is_needed (heard_in rows.now) own index thread }
 {
     if thread == own {

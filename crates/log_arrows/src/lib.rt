@@ -14,8 +14,8 @@ ghost use Rattle.log_arrows.specs.Arrows.{AllArrows, Room, pairs};
 // Writes the arrows that a log needs, which is not refused, by its version, and returns how many they are: arrow k leads from record `from[k]` to record
 // `to[k]`. A record has at most seven.
 pub fn needed(version: usize, log: &[u8], from: &mut [u16], to: &mut [u16]) -> usize
-    requires fact_1 { log_refusal log.now ≡ none }
-    requires fact_2 { Room (7 * (length log.now / 3)) from.old to.old }
+    requires accepted { log_refusal log.now ≡ none }
+    requires room { Room (7 * (length log.now / 3)) from.old to.old }
     ensures few { result ≤ 7 * (length log.now / 3) }
     ensures arrows { AllArrows (version_of version) (log_of log.now) (pairs result from.new to.new) }
 {

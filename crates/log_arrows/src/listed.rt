@@ -14,10 +14,10 @@ fn to_one(
     to: &mut [u16],
     count: usize,
 ) -> usize
-    requires fact_1 { Earlier rows.now index }
-    requires fact_2 { index < 4096 }
-    requires fact_3 { own < 8 }
-    requires fact_4 { Room (count + 7) from.old to.old }
+    requires earlier { Earlier rows.now index }
+    requires index_in { index < 4096 }
+    requires own_in { own < 8 }
+    requires room { Room (count + 7) from.old to.old }
     ensures { Added (heard_in rows.now) own index 8 count from.old to.old result from.new to.new }
 {
     let row = rows[index];
@@ -36,9 +36,9 @@ fn to_one(
 
 // Writes those to every record, and returns how many they are.
 pub fn all(log: &[u8], rows: &[Row], from: &mut [u16], to: &mut [u16]) -> usize
-    requires fact_1 { ((j : ℕ) → j < length log.now / 3 → Earlier rows.now j) }
-    requires fact_2 { length log.now / 3 ≤ 4096 }
-    requires fact_3 { Room (7 * (length log.now / 3)) from.old to.old }
+    requires earlier { ((j : ℕ) → j < length log.now / 3 → Earlier rows.now j) }
+    requires short { length log.now / 3 ≤ 4096 }
+    requires room { Room (7 * (length log.now / 3)) from.old to.old }
     ensures few { result ≤ 7 * (length log.now / 3) }
     ensures arrows { pairs result from.new to.new
         ≡ arrows_below (heard_in rows.now) (thread_at log.now) (length log.now / 3) }

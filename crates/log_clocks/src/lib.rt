@@ -14,8 +14,8 @@ pub fn higher(one: u16, other: u16) -> u16
 
 // Whether a clock is lower than another, both below 32,768. They are compared as signed numbers, since any x86-64 compares eight of those at once.
 fn less(one: u16, other: u16) -> bool
-    requires fact_1 { one < 32768 }
-    requires fact_2 { other < 32768 }
+    requires one_in { one < 32768 }
+    requires other_in { other < 32768 }
     ensures { result ≡ ltb one other }
 {
     (one as i16) < (other as i16)
@@ -23,8 +23,8 @@ fn less(one: u16, other: u16) -> bool
 
 // The higher of two clocks below 32,768.
 fn greater(one: u16, other: u16) -> u16
-    requires fact_1 { one < 32768 }
-    requires fact_2 { other < 32768 }
+    requires one_in { one < 32768 }
+    requires other_in { other < 32768 }
     ensures { result ≡ max one other }
 {
     if less(one, other) { other } else { one }
@@ -32,8 +32,8 @@ fn greater(one: u16, other: u16) -> u16
 
 // The lower of two clocks below 32,768.
 fn lesser(one: u16, other: u16) -> u16
-    requires fact_1 { one < 32768 }
-    requires fact_2 { other < 32768 }
+    requires one_in { one < 32768 }
+    requires other_in { other < 32768 }
     ensures { result ≡ min one other }
 {
     if less(one, other) { one } else { other }
@@ -54,9 +54,9 @@ pub fn raised(row: Row, told: Row) -> Row
 
 // The row that is told what another row knows of the records below `most`.
 pub fn raised_to(row: Row, told: Row, most: u16) -> Row
-    requires fact_1 { Low row }
-    requires fact_2 { Low told }
-    requires fact_3 { most < 32768 }
+    requires row_low { Low row }
+    requires told_low { Low told }
+    requires most_in { most < 32768 }
     ensures { RaisedTo most row told result }
 {
     let mut clocks = [0u16; 8];
@@ -71,8 +71,8 @@ pub fn raised_to(row: Row, told: Row, most: u16) -> Row
 
 // One of the eight clocks of a row is lower than that of another: what the other knows has not all reached it.
 pub fn lower(own: Row, heard: Row) -> bool
-    requires fact_1 { Low own }
-    requires fact_2 { Low heard }
+    requires own_low { Low own }
+    requires heard_low { Low heard }
     ensures { result ≡ lower_of 8 own heard }
 {
     let mut found = false;

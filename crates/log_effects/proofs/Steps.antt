@@ -14,7 +14,7 @@ use Rattle.log_effects.specs.Inner.Step.{field_at, PlacedStep, OtherStep, forks,
 use Rattle.log_effects.specs.declared.Taking.TheVariants.{Taken}
 
 -- a place's number is one of those that there are
-pub number_most : {N N' : List ℕ} {given given' p most n : ℕ} → Numbered N given p most N' given' n → ((q : ℕ) → get_or N q 0 ≤ most) → n ≤ most
+pub number_most : {N : List ℕ} {given p : ℕ} {N' : List ℕ} {given' most n : ℕ} → Numbered N given p most N' given' n → ((q : ℕ) → get_or N q 0 ≤ most) → n ≤ most
 number_most {p = p} (known k) h = h p
 number_most (next k l) h = omega arith
 number_most (full k l) h = omega arith

@@ -9,7 +9,7 @@ use log_places::{places, records};
 use log_records::kind;
 
 // What comes of a record.
-#[derive(Drop)]
+#[derive(Clone, Copy)]
 pub enum Taking {
     // The table has taken it in.
     Taken,

@@ -1,7 +1,7 @@
 -- Keys and chains agree: after a legal log, a plain access lacked its key exactly when it is unordered. Logs newest first. Assumes nothing.
 use Prim.Native.Nat.{ℕ}
 use mathlib.Core.Path.{◌≡◌}
-use mathlib.Core.List.{List, ◌∷◌}
+use mathlib.Core.List.{[], List, ◌∷◌}
 use mathlib.Core.Logic.{◌⊎◌, inl, inr, ◌↔◌}
 use lib.ListN.{length}
 use lib.Dec.{T, T_not}
@@ -82,3 +82,4 @@ agree_newest v (s ∷ H) l j r (back h) a =
     let b = at_below h in
     let w = agree_newest v H l.0 j r h a in
     (λ x. unordered_newer s H j b (w.0 x), λ u. w.1 (unordered_older s H j b u))
+agree_newest v [] l j r x3 a = elim x3 [ ]

@@ -1,7 +1,7 @@
 -- What reaches a port, newest record first; the chains into a new record are what reaches a port that it draws from. Assumes nothing.
 use Prim.Native.Nat.{ℕ, ◌<◌}
 use mathlib.Core.Path.{◌≡◌, refl, sym, ◌∙◌, subst}
-use mathlib.Core.List.{List, ◌∷◌}
+use mathlib.Core.List.{[], List, ◌∷◌}
 use mathlib.Core.Logic.{inl, ◌↔◌}
 use lib.ListN.{length}
 use native.Mathlib.Omega.{arith}
@@ -87,6 +87,7 @@ at→reach (r ∷ H) p (here e) o (along (one l)) = passed (drawn e l) (at→rea
 at→reach (r ∷ H) p (here e) o (along (more c l)) =
     passed (drawn e l) (at→reach H (port_of l) (source e l) (pair→port l.paired).1 (along (chain_older (at_below (source e l)) c))) o
 at→reach (r ∷ H) p (back h) o u = kept (at→reach H p h o (up_to_older (at_below h) u))
+at→reach {v = v} {i = i} {j = j} {s = s} [] p x3 o u = elim x3 [ ]
 
 -- record i reaches some port that r draws from
 pub record Drawn (v : Version) (r : Record) (H : List Record) (i : ℕ) : Type 0 where

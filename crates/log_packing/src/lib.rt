@@ -5,7 +5,7 @@ ghost use Rattle.format.specs.Bits.{bits_at};
 ghost use Rattle.log_packing.specs.Inner.Columns.{ReadAt};
 ghost use Rattle.log_packing.specs.Inner.Packing.{word_of, put_at};
 
-#[derive(Drop)]
+#[derive(Clone, Copy)]
 pub struct Columns {
     pub kind: usize,
     pub thread: usize,
@@ -18,8 +18,8 @@ pub struct Columns {
 // The 24 bits of the record at an index.
 fn word_at(log: &[u8], index: usize) -> usize
     requires { index < length log.now / 3 }
-    ensures fact_1 { result ≡ bits_at log.now (24 * index) 24 }
-    ensures fact_2 { result < 16777216 }
+    ensures value { result ≡ bits_at log.now (24 * index) 24 }
+    ensures result_in { result < 16777216 }
 {
     let first = byte_numbers::wide(log[3 * index]);
     let second = byte_numbers::wide(log[3 * index + 1]);

@@ -6,8 +6,8 @@ ghost use Rattle.log_places.specs.Inner.Places.{numbers_of, given_of, Numbered};
 // The number of a place, the next after those given where it has none yet, or 0 where none is left of as many as there are. `numbers` holds the number of
 // each place, or 0; numbers over 255 do not fit there, so that of more each place has its own.
 pub fn number(numbers: &mut [u8], given: &mut u16, place: usize, most: u16) -> u16
-    requires fact_1 { place < 1024 }
-    requires fact_2 { length numbers.old ≡ 1024 }
+    requires place_in { place < 1024 }
+    requires sized { length numbers.old ≡ 1024 }
     ensures { Numbered (numbers_of most numbers.old) (given_of most given.old) place most
         (numbers_of most numbers.new) (given_of most given.new) result }
 {

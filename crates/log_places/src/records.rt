@@ -15,8 +15,8 @@ pub fn kind_at(log: &[u8], index: usize) -> usize
 // The next three.
 pub fn thread_at(log: &[u8], index: usize) -> usize
     requires { index < length log.now / 3 }
-    ensures fact_1 { result ≡ thread_at log.now index }
-    ensures fact_2 { result < 8 }
+    ensures value { result ≡ thread_at log.now index }
+    ensures result_in { result < 8 }
 {
     let first = byte_numbers::wide(log[3 * index]);
     first / 2 % 8
@@ -25,8 +25,8 @@ pub fn thread_at(log: &[u8], index: usize) -> usize
 // The ten bits of object and field.
 pub fn place_at(log: &[u8], index: usize) -> usize
     requires { index < length log.now / 3 }
-    ensures fact_1 { result ≡ place_at log.now index }
-    ensures fact_2 { result < 1024 }
+    ensures value { result ≡ place_at log.now index }
+    ensures result_in { result < 1024 }
 {
     let first = byte_numbers::wide(log[3 * index]);
     let second = byte_numbers::wide(log[3 * index + 1]);

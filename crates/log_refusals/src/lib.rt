@@ -16,9 +16,9 @@ pub fn wrong_length(log: &[u8]) -> bool
 
 // Refusal 12 at the record of an index, by the tables for its place.
 fn wrong_record<'a>(log: &[u8], index: usize, least: &'a [u16; 16], zero: &'a [u16; 16]) -> bool
-    requires fact_1 { index < length log.now / 3 }
-    requires fact_2 { least.now ≡ least_bits (eqb (index + 1) (length log.now / 3)) }
-    requires fact_3 { zero.now ≡ zero_bits }
+    requires index_in { index < length log.now / 3 }
+    requires least_value { least.now ≡ least_bits (eqb (index + 1) (length log.now / 3)) }
+    requires zero_value { zero.now ≡ zero_bits }
     ensures { result ≡ wrong_record log.now index }
 {
     let columns = log_packing::columns_at(log, index);
@@ -31,9 +31,9 @@ fn wrong_record<'a>(log: &[u8], index: usize, least: &'a [u16; 16], zero: &'a [u
 
 // Refusal 12 at one of four records in a row, none of them the last.
 fn four_wrong<'a>(log: &[u8], index: usize, least: &'a [u16; 16], zero: &'a [u16; 16]) -> bool
-    requires fact_1 { index + 4 < length log.now / 3 }
-    requires fact_2 { least.now ≡ least_bits false }
-    requires fact_3 { zero.now ≡ zero_bits }
+    requires index_in { index + 4 < length log.now / 3 }
+    requires least_value { least.now ≡ least_bits false }
+    requires zero_value { zero.now ≡ zero_bits }
     ensures { result ≡ four_wrong log.now index }
 {
     let first = wrong_record(log, index, least, zero);
@@ -45,8 +45,8 @@ fn four_wrong<'a>(log: &[u8], index: usize, least: &'a [u16; 16], zero: &'a [u16
 
 // A count of records from the first on that are all right: four are tested before a branch.
 fn right_fours<'a>(log: &[u8], least: &'a [u16; 16], zero: &'a [u16; 16]) -> usize
-    requires fact_1 { least.now ≡ least_bits false }
-    requires fact_2 { zero.now ≡ zero_bits }
+    requires least_value { least.now ≡ least_bits false }
+    requires zero_value { zero.now ≡ zero_bits }
     ensures { RightTo log.now result }
 {
     let count = log.len() / 3;

@@ -8,8 +8,8 @@ use log_clocks::Row;
 
 // Each thread has heard of all its own records.
 pub fn start(table: &mut [Row])
-    requires fact_1 { 8 ≤ length table.old }
-    requires fact_2 { Sound table.old }
+    requires sized { 8 ≤ length table.old }
+    requires sound { Sound table.old }
     ensures { Started 8 table.old table.new }
 {
     let mut thread = 0;
@@ -21,10 +21,10 @@ pub fn start(table: &mut [Row])
 
 // A row keeps a record of a thread: `time` is 1 more than the record's index.
 fn keep(table: &mut [Row], row: usize, thread: usize, time: u16)
-    requires fact_1 { row < length table.old }
-    requires fact_2 { thread < 8 }
-    requires fact_3 { time < 32768 }
-    requires fact_4 { Sound table.old }
+    requires row_in { row < length table.old }
+    requires thread_in { thread < 8 }
+    requires time_in { time < 32768 }
+    requires sound { Sound table.old }
     ensures { Keeps row thread time table.old table.new }
 {
     table[row][thread] = time;
@@ -32,9 +32,9 @@ fn keep(table: &mut [Row], row: usize, thread: usize, time: u16)
 
 // A row hears all that another row knows.
 pub fn hear(table: &mut [Row], row: usize, other: usize)
-    requires fact_1 { row < length table.old }
-    requires fact_2 { other < length table.old }
-    requires fact_3 { Sound table.old }
+    requires row_in { row < length table.old }
+    requires other_in { other < length table.old }
+    requires sound { Sound table.old }
     ensures { Hears row other table.old table.new }
 {
     let own = table[row];
@@ -44,10 +44,10 @@ pub fn hear(table: &mut [Row], row: usize, other: usize)
 
 // A row is told what another row knows of the records below `time`.
 pub fn tell(table: &mut [Row], row: usize, other: usize, time: u16)
-    requires fact_1 { row < length table.old }
-    requires fact_2 { other < length table.old }
-    requires fact_3 { time < 32768 }
-    requires fact_4 { Sound table.old }
+    requires row_in { row < length table.old }
+    requires other_in { other < length table.old }
+    requires time_in { time < 32768 }
+    requires sound { Sound table.old }
     ensures { Told row other time table.old table.new }
 {
     let own = table[row];
@@ -57,11 +57,11 @@ pub fn tell(table: &mut [Row], row: usize, other: usize, time: u16)
 
 // A plain access: whether it is unordered; if it is not, it is kept.
 pub fn access(table: &mut [Row], kind: usize, thread: usize, at: usize, time: u16) -> bool
-    requires fact_1 { Sound table.old }
-    requires fact_2 { thread < 8 }
-    requires fact_3 { time < 32768 }
-    requires fact_4 { (8 ≤ at) × (at ≤ 65536) }
-    requires fact_5 { at + 2 < length table.old }
+    requires sound { Sound table.old }
+    requires thread_in { thread < 8 }
+    requires time_in { time < 32768 }
+    requires at_in { (8 ≤ at) × (at ≤ 65536) }
+    requires room { at + 2 < length table.old }
     ensures { Accessed kind thread at time table.old table.new result }
 {
     let own = table[thread];

@@ -29,9 +29,9 @@ pub fn count(kept: &[bool], moves: usize) -> usize
 // The picks of the moves that are kept, renumbered, at the area's start; its other bytes keep their values. Thread 0 is thread 0, and each fork that is
 // kept makes the next thread.
 pub fn put_picks(log: &[u8], kept: &[bool], area: &mut [u8])
-    requires fact_1 { length log.now / 3 ≤ length kept.now }
-    requires fact_2 { length (picks_in log.now kept.now) ≤ length area.old }
-    requires fact_3 { Small
+    requires sized { length log.now / 3 ≤ length kept.now }
+    requires room { length (picks_in log.now kept.now) ≤ length area.old }
+    requires small { Small
         (picks_in log.now kept.now) }
     ensures { area.new ≡ overwrite (picks_in log.now kept.now) area.old }
 {

@@ -10,7 +10,7 @@ use Rattle.plan_packed.specs.Trees.{null, variable, new, read, write, let_in, if
 use Rattle.plan_packed.specs.Trees.{Node, expression, condition, arguments, unknown, expression_of, condition_of, arguments_of}
 use Rattle.plan_packed.specs.Inner.Steps.{NamesLater, Descending}
 use Rattle.plan_packed.proofs.TreeLaws.{tree, treeᶜ, treeᵃ, tree_law, tree_lawᶜ, tree_lawᵃ}
-use Rattle.rules.specs.Context.{as_literal, as_bool_lem, is_truth, false_when, Focus, focus, focusᶜ, focusᵃ, on_literal, on_bool, on_not}
+use Rattle.rules.specs.Context.{as_literal, as_bool, is_truth, false_when, Focus, focus, focusᶜ, focusᵃ, on_literal, on_bool, on_not}
 use Rattle.machine.specs.Inner.Frames.{Slots, no_slots, put, Closure, closure, Frame, Found}
 use Rattle.machine.specs.Inner.Refocusing.{given, value_of, is_true, bool_of, value_in, bool_in, found_not, down_by, down_byᶜ, down_byᵃ, down, downᶜ, downᵃ}
 use Rattle.machine.proofs.Substitution.{every, first_slots, first_put}
@@ -53,8 +53,8 @@ module _ (h : ℕ → Node) (N : ℕ) (o : Descending h N) where
   truth_law ρ (arguments x) = refl
   truth_law ρ unknown = refl
 
-  bool_law : (ρ : Slots) (x : Node) → as_bool_lem (substituteᶜ (every ρ) (condition_of (tree h N) (treeᶜ h N) x)) ≡ bool_of h x
-  unfolding substitute condition_of bool_of as_bool_lem
+  bool_law : (ρ : Slots) (x : Node) → as_bool (substituteᶜ (every ρ) (condition_of (tree h N) (treeᶜ h N) x)) ≡ bool_of h x
+  unfolding substitute condition_of bool_of as_bool
   bool_law ρ (expression x) = refl
   bool_law ρ (condition truth) = refl
   bool_law ρ (condition (not i)) = ap false_when (ap (λ (c : Condition). is_truth (substituteᶜ (every ρ) c)) (tree_lawᶜ h N o i) ∙ truth_law ρ (h i))
@@ -63,9 +63,9 @@ module _ (h : ℕ → Node) (N : ℕ) (o : Descending h N) where
   bool_law ρ (arguments x) = refl
   bool_law ρ unknown = refl
 
-  pub bool_in_lem : (x : Closure) → as_bool_lem (condition_in h N x) ≡ bool_in h x
+  pub bool_in_lem : (x : Closure) → as_bool (condition_in h N x) ≡ bool_in h x
   unfolding bool_in
-  bool_in_lem x = ap (λ (c : Condition). as_bool_lem (substituteᶜ (every x.slots) c)) (tree_lawᶜ h N o x.at) ∙ bool_law x.slots (h x.at)
+  bool_in_lem x = ap (λ (c : Condition). as_bool (substituteᶜ (every x.slots) c)) (tree_lawᶜ h N o x.at) ∙ bool_law x.slots (h x.at)
 
   pub by_literal : (a v : Option ℕ) (k : ℕ → Found) (k' : ℕ → Focus) (r : Found) (r' : Focus) → a ≡ v
       → ((o : ℕ) → mean h N (k o) ≡ k' o) → mean h N r ≡ r' → mean h N (given v k r) ≡ on_literal a k' r'

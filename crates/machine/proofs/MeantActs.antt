@@ -26,7 +26,7 @@ use Rattle.machine.proofs.Substitution.{every, first_slots, first_length, let_pu
 use Rattle.machine.proofs.Meaning.{expression_in, redex_of}
 use Rattle.machine.proofs.Onward.{whole_go}
 use Rattle.machine.proofs.StateMeaning.{Tabulates, thread_meant, state_of, act_of, gain_of, enqueue_of, signalled_of_lem, thread_of_lem, cond_of}
-use Rattle.machine.proofs.StateMeaning.{join_of, choose_of, branch_of, again_of}
+use Rattle.machine.proofs.StateMeaning.{join_of_lem, choose_of, branch_of, again_of}
 
 -- a rule applies
 abbrev pub RuledAct : Act → Type 0
@@ -45,12 +45,12 @@ module _ (table : Table) where
   synch_of s p t o x (some c) k =
       cond_of table (is_empty c.keys) _ _ _ _ _ refl (cond_of table (eqb c.value t.self) _ _ _ _ _ refl refl refl) (rw (gain_of table))
 
-  move_of : (s : machine.State) (p : ℕ) (t : machine.Thread) (o : ℕ) (k : Signal)
+  move_of_lem : (s : machine.State) (p : ℕ) (t : machine.Thread) (o : ℕ) (k : Signal)
       → act_of table (machine.signal_move s p t o k) ≡ signal_move (state_of table s) p (thread_meant table t) o k
   unfolding machine.signal_move signal_move
-  move_of s p t o Signal.wait = rw (enqueue_of table)
-  move_of s p t o Signal.notify = rw (signalled_of_lem table)
-  move_of s p t o Signal.notify_all = rw (signalled_of_lem table)
+  move_of_lem s p t o Signal.wait = rw (enqueue_of table)
+  move_of_lem s p t o Signal.notify = rw (signalled_of_lem table)
+  move_of_lem s p t o Signal.notify_all = rw (signalled_of_lem table)
 
   signal_of_lem : (s : machine.State) (p : ℕ) (t : machine.Thread) (j : Signal) (o : ℕ) (c : Option Cell)
       → RuledAct (signal_act (state_of table s) p (thread_meant table t) j o c)
@@ -58,7 +58,7 @@ module _ (table : Table) where
   unfolding machine.signal_act machine.cell_or signal_act
   signal_of_lem s p t j o none k = absurd k
   signal_of_lem s p t j o (some c) k =
-      cond_of table (is_empty c.keys) _ _ _ _ _ refl (cond_of table (eqb c.value t.self) _ _ _ _ _ refl (move_of s p t o j) refl) refl
+      cond_of table (is_empty c.keys) _ _ _ _ _ refl (cond_of table (eqb c.value t.self) _ _ _ _ _ refl (move_of_lem s p t o j) refl) refl
 
   wake_of : (s : machine.State) (p : ℕ) (t : machine.Thread) (o n : ℕ) (c : Option Cell) → RuledAct (wake_act (state_of table s) p (thread_meant table t) o n c)
       → act_of table (machine.wake_act s p t o n (machine.cell_or c)) ≡ wake_act (state_of table s) p (thread_meant table t) o n c
@@ -105,12 +105,12 @@ module _ (table : Table) where
         ap (substitute (every σ)) (sym (law.bodies m d h))
         ∙ call_slots n σ d.body (along (λ (k : ℕ). T (closed (λ x. ltb x k) d.body)) e (law.all_bound m d h))
 
-    call_of : (s : machine.State) (p : ℕ) (t : machine.Thread) (m n : ℕ) (σ : Slots) (d : Option Procedure) → get_elem? g.procedures m ≡ d
+    call_of_lem : (s : machine.State) (p : ℕ) (t : machine.Thread) (m n : ℕ) (σ : Slots) (d : Option Procedure) → get_elem? g.procedures m ≡ d
         → RuledAct (call_act (state_of table s) d (first_slots n σ))
         → act_of table (machine.act table s p t (Ready.call m n σ)) ≡ call_act (state_of table s) d (first_slots n σ)
     unfolding machine.act call_act
-    call_of s p t m n σ none h k = absurd k
-    call_of s p t m n σ (some d) h k = at (eqb d.parameters (length (first_slots n σ))) refl k
+    call_of_lem s p t m n σ none h k = absurd k
+    call_of_lem s p t m n σ (some d) h k = at (eqb d.parameters (length (first_slots n σ))) refl k
       where
         called : Act
         called = does e_call none (state_of table s) (substitute (bind_parameters (first_slots n σ)) d.body)
@@ -141,9 +141,9 @@ module _ (table : Table) where
     act_of_lem s p t (Ready.let_in x o y) k = ap (does e_let none (state_of table s)) (sym (let_put y.slots x o (tree table.node table.count y.at)))
     act_of_lem s p t (Ready.if b x) k = ap (does e_if none (state_of table s)) (branch_of table b x)
     act_of_lem s p t (Ready.while x) k = refl
-    act_of_lem s p t (Ready.call m n σ) k = call_of s p t m n σ (get_elem? g.procedures m) refl k
+    act_of_lem s p t (Ready.call m n σ) k = call_of_lem s p t m n σ (get_elem? g.procedures m) refl k
     act_of_lem s p t (Ready.fork x) k = rw (length-map s.threads (thread_meant table), fork_of s x (length s.objects) t.keys)
-    act_of_lem s p t (Ready.join o) k = join_of table s p o (thread_of 0 s.threads o)
+    act_of_lem s p t (Ready.join o) k = join_of_lem table s p o (thread_of 0 s.threads o)
         ∙ ap (join_act (state_of table s) p o) (sym (thread_of_lem table 0 s.threads o))
     act_of_lem s p t (Ready.synch o x) k = synch_of s p t o x (monitor_of (get_elem? s.objects o)) k
     act_of_lem s p t (Ready.hold o v) k = hold_of s p t o v (monitor_of (get_elem? s.objects o)) k

@@ -10,10 +10,10 @@ use Rattle.plan_packed.specs.Syntax.{Expression, Condition, Arguments, literal, 
 use Rattle.plan_packed.specs.Trees.{Node, expression_of}
 use Rattle.plan_packed.specs.Inner.Steps.{Descending}
 use Rattle.plan_packed.proofs.TreeLaws.{tree_law}
-use Rattle.rules.specs.Context.{Context, top, literals, plug, plugᶜ, as_literal, as_bool_lem, Redex, Redexᶜ, redex_expression, redex_condition, focus, focusᵃ}
+use Rattle.rules.specs.Context.{Context, top, literals, plug, plugᶜ, as_literal, as_bool, Redex, Redexᶜ, redex_expression, redex_condition, focus, focusᵃ}
 use Rattle.rules.proofs.Decompose.{whole, whole_focus}
 use Rattle.rules.proofs.FocusPlug.{found, foundᶜ, focus_plug, focus_plugᶜ}
-use Rattle.rules.proofs.Back.{as_literal_lem, as_bool}
+use Rattle.rules.proofs.Back.{as_literal_lem, as_bool_lem}
 use Rattle.machine.specs.Inner.Frames.{Slots, put, Closure, closure, first_of, second_of, Frame, Ready, Result}
 use Rattle.machine.specs.Inner.Refocusing.{given, value_in, bool_in, down, downᶜ, up, nowhere, upᶜ, enter, enterᶜ, go}
 use Rattle.machine.proofs.Substitution.{first_slots, first_put}
@@ -98,9 +98,9 @@ module _ (h : ℕ → Node) (N : ℕ) (o : Descending h N) where
   unfolding enter
   enter_focus S x = enter_by S x (value_in h x) (value_in_lem h N o x)
 
-  enter_byᶜ : (S : List Frame) (x : Closure) (v : Option Bool) → as_bool_lem (condition_in h N x) ≡ v
+  enter_byᶜ : (S : List Frame) (x : Closure) (v : Option Bool) → as_bool (condition_in h N x) ≡ v
       → mean h N (given v (λ v. upᶜ h N S v) (downᶜ h N S x)) ≡ focus top (plugᶜ (contextᶜ h N S) (condition_in h N x))
-  enter_byᶜ S x (some v) q = upᶜ_focus S v ∙ ap (λ (e : Condition). focus top (plugᶜ (contextᶜ h N S) e)) (sym (as_bool _ v q))
+  enter_byᶜ S x (some v) q = upᶜ_focus S v ∙ ap (λ (e : Condition). focus top (plugᶜ (contextᶜ h N S) e)) (sym (as_bool_lem _ v q))
   enter_byᶜ S x none q =
       down_focusᶜ h N o N S x (omega arith) ∙ sym (focus_plugᶜ (contextᶜ h N S) (condition_in h N x) q)
 

@@ -9,7 +9,7 @@ use lib.Dec.{eqb}
 use lib.Pow.{pow-add}
 use borrow.Author.Tests.{eq-eqb, ne_eqb}
 use Rattle.machine.specs.Inner.Frames.{put}
-use Rattle.machine.specs.Inner.PackedSlots.{slots_in, put_in_lem}
+use Rattle.machine.specs.Inner.PackedSlots.{slots_in, put_in}
 
 -- a slot's unit, one slot up
 unit_up : (x : ℕ) → 2 ^ (5 * suc x) ≡ 2 ^ (5 * x) * 32
@@ -50,8 +50,8 @@ slot_small w (suc x) =
     let a : s * (u * 32) ≡ s * u * 32 = sym (mul_assoc s u 32) in
     rw (slot_up w x, unit_up x) (omega (arith, slot_small (w / 32) x, a))
 
-put_is : (w x v : ℕ) → put_in_lem w x v ≡ put_by w x v
-unfolding put_in_lem slots_in
+put_is : (w x v : ℕ) → put_in w x v ≡ put_by w x v
+unfolding put_in slots_in
 put_is w x v = omega (arith, put_sum w x v, slot_small w x)
 
 -- the slot itself
@@ -85,5 +85,5 @@ put_slot w x v h y = at (ℕ_discrete x y)
     at (no n) = rw (ne_eqb x y n) (put_other w x v h y n)
 
 -- a value put into the number is put into its slots
-pub put_in : (w x v : ℕ) → v < 32 → slots_in (put_in_lem w x v) ≡ put (slots_in w) x v
-put_in w x v h = fun_ext (λ y. ap (λ (n : ℕ). slots_in n y) (put_is w x v) ∙ put_slot w x v h y)
+pub put_in_lem : (w x v : ℕ) → v < 32 → slots_in (put_in w x v) ≡ put (slots_in w) x v
+put_in_lem w x v h = fun_ext (λ y. ap (λ (n : ℕ). slots_in n y) (put_is w x v) ∙ put_slot w x v h y)

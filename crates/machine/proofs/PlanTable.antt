@@ -9,7 +9,7 @@ use Rattle.plan_packed.specs.Syntax.{Procedure}
 use Rattle.plan_packed.specs.Format.{procedures, terms, parameters, root, Operand, absent, slot, binder, mask, field_name, procedure, expression, condition}
 use Rattle.plan_packed.specs.Format.{list}
 use Rattle.plan_packed.specs.Format.{layout, tag_at}
-use Rattle.plan_packed.specs.Trees.{node_at, tree_at, procedure_at, program_of_lem}
+use Rattle.plan_packed.specs.Trees.{node_at, tree_at, procedure_at, program_of}
 use Rattle.plan_packed.specs.Slots.{closed}
 use Rattle.plan_packed.specs.Inner.Steps.{Descending}
 use Rattle.plan_packed.proofs.Accepted.{Fits, Accepted}
@@ -51,8 +51,8 @@ module _ (b : List ℕ) (a : Accepted b) where
   unfolding procedure_at
   body_bound m h = along T (sym (a.each_procedure m h).all_bound) tt
 
-  pub tabulates : Tabulates (table_of b) (program_of_lem b)
-  unfolding table_of is_volatile program_of_lem
+  pub tabulates : Tabulates (table_of b) (program_of b)
+  unfolding table_of is_volatile program_of
   tabulates = record {
     ordered = ordered;
     version_of_lem = refl;

@@ -16,7 +16,7 @@ use Rattle.rules.specs.State.{Thread, State}
 use Rattle.rules.specs.Rules.{Rule}
 use Rattle.rules.specs.Step.{AttemptOf, Move, attempt}
 use Rattle.rules.specs.Room.{Room, no_room_among, no_room_before, deep, deep_at, any_deep, no_room_after, no_room_for, PickAnswerOf, PickAnswer, within_room, answer, step}
-use Rattle.rules.specs.Run.{Run, after_pass, after_move, resume, run, Status, status, statuses_from, total_of_lem, totals_from}
+use Rattle.rules.specs.Run.{Run, after_pass, after_move, resume, run, Status, status, statuses_from, total_of, totals_from}
 use Rattle.rules.proofs.Decompose.{focus_whole}
 use Rattle.rules.proofs.Progress.{ruled}
 use Rattle.rules.proofs.RoomLaws.{answer_moved}
@@ -79,42 +79,42 @@ module _ (table : Table) where
 
   -- ---- the totals
 
-  total_of : (t : Option machine.Thread) → total_of_lem (Option.map (thread_meant table) t) ≡ total_of_lem t
-  unfolding total_of_lem
-  total_of none = refl
-  total_of (some t) = refl
+  total_of_lem : (t : Option machine.Thread) → total_of (Option.map (thread_meant table) t) ≡ total_of t
+  unfolding total_of
+  total_of_lem none = refl
+  total_of_lem (some t) = refl
 
   pub totals_of : (s : machine.State) (p n : ℕ) → totals_from (state_of table s) p n ≡ totals_from s p n
   unfolding totals_from
   totals_of s p zero = refl
-  totals_of s p (suc n) = ap₂ (λ (x : ℕ) (xs : List ℕ). x ∷ xs) (ap total_of_lem (get_map (thread_meant table) s.threads p) ∙ total_of (get_elem? s.threads p))
+  totals_of s p (suc n) = ap₂ (λ (x : ℕ) (xs : List ℕ). x ∷ xs) (ap total_of (get_map (thread_meant table) s.threads p) ∙ total_of_lem (get_elem? s.threads p))
       (totals_of s (suc p) n)
 
   -- ---- the answer to a pick
 
-  abbrev move_of_lem : machine.Move → Move
-  move_of_lem m = record { rule = m.rule; entry = m.entry; state = state_of table m.state }
+  abbrev move_of : machine.Move → Move
+  move_of m = record { rule = m.rule; entry = m.entry; state = state_of table m.state }
 
-  abbrev pub answer_of_lem : playing.PickAnswer → PickAnswer
-  answer_of_lem PickAnswerOf.passed = PickAnswerOf.passed
-  answer_of_lem (PickAnswerOf.race r) = PickAnswerOf.race r
-  answer_of_lem (PickAnswerOf.no_room k) = PickAnswerOf.no_room k
-  answer_of_lem (PickAnswerOf.moved m) = PickAnswerOf.moved (move_of_lem m)
+  abbrev pub answer_of : playing.PickAnswer → PickAnswer
+  answer_of PickAnswerOf.passed = PickAnswerOf.passed
+  answer_of (PickAnswerOf.race r) = PickAnswerOf.race r
+  answer_of (PickAnswerOf.no_room k) = PickAnswerOf.no_room k
+  answer_of (PickAnswerOf.moved m) = PickAnswerOf.moved (move_of m)
 
-  admit_of : (m : machine.Move) (k : Option Room) → within_room (move_of_lem m) k ≡ answer_of_lem (within_room m k)
+  admit_of : (m : machine.Move) (k : Option Room) → within_room (move_of m) k ≡ answer_of (within_room m k)
   unfolding within_room
   admit_of m none = refl
   admit_of m (some k) = refl
 
-  answer_of : (s : machine.State) (p : ℕ) (a : machine.Attempt) → WellAttempt table a
-      → answer (state_of table s) p (attempt_of table a) ≡ answer_of_lem (answer s p a)
+  answer_of_lem : (s : machine.State) (p : ℕ) (a : machine.Attempt) → WellAttempt table a
+      → answer (state_of table s) p (attempt_of table a) ≡ answer_of (answer s p a)
   unfolding answer
-  answer_of s p AttemptOf.absent w = refl
-  answer_of s p (AttemptOf.finished v) w = refl
-  answer_of s p (AttemptOf.waiting x) w = refl
-  answer_of s p (AttemptOf.stuck r) w = refl
-  answer_of s p (AttemptOf.lacking r) w = refl
-  answer_of s p (AttemptOf.moves m) w = ap (within_room (move_of_lem m)) (lack_of m.rule s p m.state w)
+  answer_of_lem s p AttemptOf.absent w = refl
+  answer_of_lem s p (AttemptOf.finished v) w = refl
+  answer_of_lem s p (AttemptOf.waiting x) w = refl
+  answer_of_lem s p (AttemptOf.stuck r) w = refl
+  answer_of_lem s p (AttemptOf.lacking r) w = refl
+  answer_of_lem s p (AttemptOf.moves m) w = ap (within_room (move_of m)) (lack_of m.rule s p m.state w)
       ∙ admit_of m (no_room_for m.rule s p m.state)
 
   abbrev pub run_meant : playing.Run → Run
@@ -143,17 +143,17 @@ module _ (table : Table) where
     attempt_reached s p r = attempt_of_lem table g law s p (ruled g (state_of table s) r.reachable.invariant p)
 
     -- the machine's answer to a pick
-    pub step_of : (s : machine.State) (p : ℕ) → Reached g s → step g (state_of table s) p ≡ answer_of_lem (playing.step table s p)
+    pub step_of : (s : machine.State) (p : ℕ) → Reached g s → step g (state_of table s) p ≡ answer_of (playing.step table s p)
     unfolding step playing.step
     step_of s p r =
-        ap (answer (state_of table s) p) (sym (attempt_reached s p r)) ∙ answer_of s p (machine.attempt table s p) (attempt_well table s p r.sorted)
+        ap (answer (state_of table s) p) (sym (attempt_reached s p r)) ∙ answer_of_lem s p (machine.attempt table s p) (attempt_well table s p r.sorted)
 
     -- a move keeps what holds of a run's states
     pub step_reached : (s : machine.State) (p : ℕ) (m : machine.Move) → Reached g s → playing.step table s p ≡ PickAnswerOf.moved m → Reached g m.state
     unfolding playing.step
     step_reached s p m r e =
         let a = answer_moved s p (machine.attempt table s p) m e in
-        let k = step_sound g (state_of table s) r.reachable.one_key p (move_of_lem m) (step_of s p r ∙ ap answer_of_lem e) in
+        let k = step_sound g (state_of table s) r.reachable.one_key p (move_of m) (step_of s p r ∙ ap answer_of e) in
         record {
           sorted = rw a.0 at (attempt_well table s p r.sorted);
           reachable = reachable_move g good (state_of table s) p r.reachable k.0;
@@ -165,12 +165,12 @@ module _ (table : Table) where
     resume_of : (s : machine.State) (p : ℕ) (k : State → Run) (k' : machine.State → playing.Run) (a : playing.PickAnswer) → Reached g s → playing.step table
         s p ≡ a
         → ((z : machine.State) → Reached g z → k (state_of table z) ≡ run_meant (k' z))
-        → resume (state_of table s) p k (answer_of_lem a) ≡ run_meant (resume s p k' a)
+        → resume (state_of table s) p k (answer_of a) ≡ run_meant (resume s p k' a)
     unfolding resume
     resume_of s p k k' PickAnswerOf.passed r e q = ap after_pass (q s r)
     resume_of s p k k' (PickAnswerOf.race x) r e q = refl
     resume_of s p k k' (PickAnswerOf.no_room x) r e q = refl
-    resume_of s p k k' (PickAnswerOf.moved m) r e q = ap (after_move p (move_of_lem m)) (q m.state (step_reached s p m r e))
+    resume_of s p k k' (PickAnswerOf.moved m) r e q = ap (after_move p (move_of m)) (q m.state (step_reached s p m r e))
 
     -- the machine's run stands for the defined run
     pub run_of : (ps : List ℕ) (s : machine.State) → Reached g s → run g (state_of table s) ps ≡ run_meant (playing.run table s ps)

@@ -133,11 +133,11 @@ module _ (table : Table) where
   join_value_lem s p o q none = refl
   join_value_lem s p o q (some v) = rw gain_of
 
-  pub join_of : (s : machine.State) (p o : ℕ) (q : Option machine.Numbered)
+  pub join_of_lem : (s : machine.State) (p o : ℕ) (q : Option machine.Numbered)
       → act_of (machine.join_act s p o q) ≡ join_act (state_of s) p o (Option.map numbered_meant q)
   unfolding machine.join_act join_act
-  join_of s p o none = refl
-  join_of s p o (some q) =
+  join_of_lem s p o none = refl
+  join_of_lem s p o (some q) =
       join_value_lem s p o q (machine.finished_with q.thread.expression)
       ∙ ap (join_value (state_of s) p o (numbered_meant q)) (sym (finished_of q.thread.expression))
 

@@ -9,7 +9,7 @@ use Rattle.plan_packed.specs.Format.{layout, table}
 use Rattle.plan_packed.specs.Inner.Operands as word
 use Rattle.plan_packed.specs.Trees.{nodes, node_of, binder_of, expression_of}
 use Rattle.plan_packed.specs.Slots.{closed, closedᶜ, closedᵃ, bound}
-use Rattle.plan_packed.specs.Inner.Steps.{Ordered, bit_of_lem, with_slot, slots, in_word, tree_in, condition_in, list_in, leaf_in}
+use Rattle.plan_packed.specs.Inner.Steps.{Ordered, bit_of, with_slot, slots, in_word, tree_in, condition_in, list_in, leaf_in}
 use Rattle.plan_packed.proofs.Walk.{expr_is, row_below, expr_rest}
 use Rattle.plan_packed.proofs.SlotMasks.{bound_is}
 use Rattle.plan_packed.proofs.WalkSteps.{and_true, and_false, and_swap, and_no, and_three, and_none, mod_below, apart, inside}
@@ -117,7 +117,7 @@ module _ (words : List ℕ) (o : Ordered words) (t m : ℕ) where
       → (closed (slots outer) (tree_in words x) && closed (slots inner) (tree_in words y)) ≡ closed (slots m) (tree_in words t) → Answer r
   rest_of r x outer y inner b h k e = (b.0 ∙ e, b.1 t h k)
 
-  pub variable_left : {r : Rest} {x : Bool} → Tagged words t 1 → r ≡ told x → x ≡ bit_of_lem m (slot_of words t) → Answer r
+  pub variable_left : {r : Rest} {x : Bool} → Tagged words t 1 → r ≡ told x → x ≡ bit_of m (slot_of words t) → Answer r
   unfolding node_of in_word layout table nodes expression_of closed slots
   variable_left e h k = all h (k ∙ sym (ap (closed (slots m)) (expr_is words o t 1 e)))
 

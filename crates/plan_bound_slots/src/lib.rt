@@ -14,7 +14,7 @@ use plan_header::layout;
 use plan_operands::tags;
 
 // What is left to see of an expression: nothing, and all slots are bound, or one is not; or the term of an index, with what is bound there.
-#[derive(Drop)]
+#[derive(Clone, Copy)]
 enum Rest {
     Closed,
     Open,
@@ -60,7 +60,7 @@ fn closed_leaf(word: usize, bound: usize) -> bool
 }
 
 // Two operands, of which one is seen here and the other is left: the second is seen here if it has no children, else the first.
-#[cycle(closed_condition_closed_expression_closed_list_rest_of_rest_of_two)]
+#[cycle(closed_tree)]
 fn rest_of_two(words: &[usize], first: usize, bound: usize, second: usize, inner: usize) -> Rest
     requires ordered { Ordered words.now }
     requires first_bound { (first < 1024) × (second < 1024) }
@@ -82,7 +82,7 @@ fn rest_of_two(words: &[usize], first: usize, bound: usize, second: usize, inner
 }
 
 // An expression, taken apart once.
-#[cycle(closed_condition_closed_expression_closed_list_rest_of_rest_of_two)]
+#[cycle(closed_tree)]
 fn rest_of(words: &[usize], term: usize, bound: usize) -> Rest
     requires ordered { Ordered words.now }
     requires term_bound { term < 1024 }
@@ -132,7 +132,7 @@ fn rest_of(words: &[usize], term: usize, bound: usize) -> Rest
 }
 
 // An expression, one operand after the other: a call for the one, a turn of the loop for the other.
-#[cycle(closed_condition_closed_expression_closed_list_rest_of_rest_of_two)]
+#[cycle(closed_tree)]
 fn closed_expression(words: &[usize], from: usize, outer: usize) -> bool
     requires ordered { Ordered words.now }
     requires from_bound { from < 1024 }
@@ -154,7 +154,7 @@ fn closed_expression(words: &[usize], from: usize, outer: usize) -> bool
 }
 
 // A condition; the second operand of an `and` that is `true` needs no call.
-#[cycle(closed_condition_closed_expression_closed_list_rest_of_rest_of_two)]
+#[cycle(closed_tree)]
 fn closed_condition(words: &[usize], from: usize, bound: usize) -> bool
     requires ordered { Ordered words.now }
     requires from_bound { from < 1024 }
@@ -195,7 +195,7 @@ fn closed_condition(words: &[usize], from: usize, bound: usize) -> bool
 }
 
 // The arguments of a call.
-#[cycle(closed_condition_closed_expression_closed_list_rest_of_rest_of_two)]
+#[cycle(closed_tree)]
 fn closed_list(words: &[usize], from: usize, bound: usize) -> bool
     requires ordered { Ordered words.now }
     requires from_bound { from < 1024 }

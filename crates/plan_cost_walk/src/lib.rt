@@ -59,7 +59,7 @@ fn branches(counting: bool, one: usize, other: usize) -> usize
 }
 
 // An expression. The table has what each procedure's body costs, where moves are counted, else bit q for procedure q.
-#[cycle(walk_branches_walk_call_walk_condition_walk_expression_walk_list_walk_two)]
+#[cycle(cost_walk)]
 pub fn walk_expression(
     words: &[usize; 1024],
     term: usize,
@@ -108,7 +108,7 @@ pub fn walk_expression(
 }
 
 // Two expressions, one after the other.
-#[cycle(walk_branches_walk_call_walk_condition_walk_expression_walk_list_walk_two)]
+#[cycle(cost_walk)]
 fn walk_two(
     words: &[usize; 1024],
     first: usize,
@@ -126,7 +126,7 @@ fn walk_two(
 }
 
 // A condition and the two branches after it.
-#[cycle(walk_branches_walk_call_walk_condition_walk_expression_walk_list_walk_two)]
+#[cycle(cost_walk)]
 fn walk_branches(
     words: &[usize; 1024],
     test: usize,
@@ -149,7 +149,7 @@ fn walk_branches(
 }
 
 // A call, by its 40 bits: its arguments, and then its procedure.
-#[cycle(walk_branches_walk_call_walk_condition_walk_expression_walk_list_walk_two)]
+#[cycle(cost_walk)]
 fn walk_call(
     words: &[usize; 1024],
     word: usize,
@@ -172,7 +172,7 @@ fn walk_call(
 }
 
 // A condition.
-#[cycle(walk_branches_walk_call_walk_condition_walk_expression_walk_list_walk_two)]
+#[cycle(cost_walk)]
 fn walk_condition(
     words: &[usize; 1024],
     term: usize,
@@ -200,7 +200,7 @@ fn walk_condition(
 }
 
 // The arguments of a call.
-#[cycle(walk_branches_walk_call_walk_condition_walk_expression_walk_list_walk_two)]
+#[cycle(cost_walk)]
 fn walk_list(
     words: &[usize; 1024],
     term: usize,

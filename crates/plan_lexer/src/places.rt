@@ -9,7 +9,7 @@ use plan_scanner::classes::{BLANK, Classes, HASH, MARK};
 use plan_scanner::{classes, extents};
 
 // Both from 1.
-#[derive(Drop)]
+#[derive(Clone, Copy)]
 pub struct Spot {
     pub line: usize,
     pub column: usize,

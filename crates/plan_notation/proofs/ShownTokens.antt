@@ -8,7 +8,7 @@ use mathlib.Core.Option.{Option, some, none}
 use lib.Dec.{ltb}
 use Rattle.plan_packed.specs.Syntax.{Signal, Expression, Condition, Arguments}
 use Rattle.plan_notation.specs.Tokens.{variable, volatile_word, procedure_word, in_word, then_word, else_word, do_word, all_word, and_word, true_word, not_word}
-use Rattle.plan_notation.specs.Tokens.{null_word, new_word, let_word, if_word, while_word, call_word_lem, fork_word, join_word, synch_word, wait_word, notify_word}
+use Rattle.plan_notation.specs.Tokens.{null_word, new_word, let_word, if_word, while_word, call_word, fork_word, join_word, synch_word, wait_word, notify_word}
 use Rattle.plan_notation.specs.Tokens.{opening}
 use Rattle.plan_notation.specs.Tokens.{closing, comma, dot, equals, becomes}
 use Rattle.plan_notation.specs.Shown.{tight, prefix, loose, testing, grouped, binder_token, signal_tokens, shown, shownᶜ, shownᵃ, shown_further}
@@ -52,7 +52,7 @@ starts counts (Expression.let_in x e e') d r =
 starts counts (Expression.if c e e') d r =
     starts_grouped d loose (begins if_word {ts = shownᶜ loose c ++ (then_word ∷ shown loose e ++ (else_word ∷ shown loose e'))} (omega arith))
 starts counts (Expression.while c e) d r = starts_grouped d loose (begins while_word {ts = shownᶜ loose c ++ (do_word ∷ shown loose e)} (omega arith))
-starts counts (Expression.call m es) d r = begins call_word_lem (omega arith)
+starts counts (Expression.call m es) d r = begins call_word (omega arith)
 starts counts (Expression.fork e) d r = starts_grouped d prefix (begins fork_word {ts = shown prefix e} (omega arith))
 starts counts (Expression.join e) d r = starts_grouped d prefix (begins join_word {ts = shown prefix e} (omega arith))
 starts counts (Expression.synch e e') d r = starts_grouped d loose (begins synch_word {ts = shown loose e ++ (do_word ∷ shown loose e')} (omega arith))
@@ -120,7 +120,7 @@ module _ (counts : List ℕ) where
     none_shown (Expression.while c e) d r =
         none_grouped d loose (token while_word (omega arith) (none_append (none_shownᶜ c loose r.0) (token do_word (omega arith) (none_shown e loose r.1))))
     none_shown (Expression.call m es) d r =
-        token call_word_lem (omega arith) (token m (let s = r.0.small in omega arith) (token opening (omega arith) (none_arguments es r.1)))
+        token call_word (omega arith) (token m (let s = r.0.small in omega arith) (token opening (omega arith) (none_arguments es r.1)))
     none_shown (Expression.fork e) d r = none_grouped d prefix (token fork_word (omega arith) (none_shown e prefix r))
     none_shown (Expression.join e) d r = none_grouped d prefix (token join_word (omega arith) (none_shown e prefix r))
     none_shown (Expression.synch e e') d r =

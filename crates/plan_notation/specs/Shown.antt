@@ -5,7 +5,7 @@ use Rattle.plan_packed.specs.Syntax.{Signal, Expression, Condition, Arguments, P
 use Rattle.plan_packed.specs.Format.{fields_from}
 use Rattle.plan_written.specs.Written.{version_number}
 use Rattle.plan_notation.specs.Tokens.{number, variable, version_word, volatile_word, procedure_word, in_word, then_word, else_word, do_word, all_word, and_word}
-use Rattle.plan_notation.specs.Tokens.{true_word, not_word, null_word, new_word, let_word, if_word, while_word, call_word_lem, fork_word, join_word, synch_word}
+use Rattle.plan_notation.specs.Tokens.{true_word, not_word, null_word, new_word, let_word, if_word, while_word, call_word, fork_word, join_word, synch_word}
 use Rattle.plan_notation.specs.Tokens.{wait_word}
 use Rattle.plan_notation.specs.Tokens.{notify_word, opening, closing, comma, dot, equals, becomes, dash}
 
@@ -57,7 +57,7 @@ unfoldable mutual
   shown d (Expression.let_in x e e') = grouped d loose (let_word ∷ binder_token x ∷ equals ∷ shown loose e ++ (in_word ∷ shown loose e'))
   shown d (Expression.if c e e') = grouped d loose (if_word ∷ shownᶜ loose c ++ (then_word ∷ shown loose e ++ (else_word ∷ shown loose e')))
   shown d (Expression.while c e) = grouped d loose (while_word ∷ shownᶜ loose c ++ (do_word ∷ shown loose e))
-  shown d (Expression.call m es) = call_word_lem ∷ number m ∷ opening ∷ shownᵃ es
+  shown d (Expression.call m es) = call_word ∷ number m ∷ opening ∷ shownᵃ es
   shown d (Expression.fork e) = grouped d prefix (fork_word ∷ shown prefix e)
   shown d (Expression.join e) = grouped d prefix (join_word ∷ shown prefix e)
   shown d (Expression.synch e e') = grouped d loose (synch_word ∷ shown loose e ++ (do_word ∷ shown loose e'))

@@ -59,8 +59,8 @@ if_word = 54  -- if
 abbrev pub while_word : ℕ
 while_word = 55  -- while
 
-abbrev pub call_word_lem : ℕ
-call_word_lem = 56  -- call
+abbrev pub call_word : ℕ
+call_word = 56  -- call
 
 abbrev pub fork_word : ℕ
 fork_word = 57  -- fork

@@ -20,7 +20,7 @@ use Rattle.plan_packed.specs.Trees.{tree_at}
 use Rattle.plan_packed.specs.Slots.{closed}
 use Rattle.plan_packed.specs.Refusals.{wrong_operand, wrong_term, misplaced, list_length, times_named, not_named_once, uses_unbound_slot}
 use Rattle.plan_packed.specs.Check.{refusal}
-use Rattle.plan_packed.proofs.Passing.{length_of, header_of_lem, procedure_of_lem, PassesTable, NoOperand, of_operands_lem, table_of, at_itself, sorted_of, call_of}
+use Rattle.plan_packed.proofs.Passing.{length_of_lem, header_of_lem, procedure_of_lem, PassesTable, NoOperand, of_operands_lem, table_of, at_itself, sorted_of, call_of_lem}
 use Rattle.plan_packed.proofs.Passing.{SixRight, AllRight, all_right}
 
 -- ---- the facts
@@ -157,7 +157,7 @@ module _ (b : List ℕ) (a : SixRight b) where
         second_fits = fits_of b t r.second y (bits_below b _ _) m.second_right (λ s. in_sort r.second y s (named_by t y q s).1);
         third_fits = fits_of b t r.third z (bits_below b _ _) m.third_right (λ s. in_sort r.third z s (named_by t z q s).2);
         spare_zero = m.spare_zero;
-        call_counts = call_of b t (sorted_of b t (a.right₅ t q)).as_call;
+        call_counts = call_of_lem b t (sorted_of b t (a.right₅ t q)).as_call;
         named_once = eqb-true _ _ (not-false (eqb (times_named b t) 1) (a.right₆ t q));
       }
 
@@ -189,7 +189,7 @@ accepted b h =
     let six = a.six in
     let k = header_of_lem b six.right₂ in
     record {
-      length_right = length_of b six.right₁;
+      length_right = length_of_lem b six.right₁;
       version_known = k.0;
       some_procedure = k.1;
       few_procedures = k.2;

@@ -16,7 +16,7 @@ use Rattle.format.specs.Refusal.{first_refusal}
 use Rattle.plan_packed.specs.Syntax.{Expression, Condition, Arguments, Procedure}
 use Rattle.plan_packed.specs.Format.{procedures, terms, parameters, root, expression, condition, list, table, layout, laid_out, tag_at, term_at}
 use Rattle.plan_packed.specs.Trees.{Node, binder_of, nodes, node_of, node_at, Stands, Standsᶜ, Standsᵃ, expression_of, condition_of, arguments_of, expression_at}
-use Rattle.plan_packed.specs.Trees.{condition_at, arguments_at, tree_at, procedure_at, procedures_from, program_of_lem}
+use Rattle.plan_packed.specs.Trees.{condition_at, arguments_at, tree_at, procedure_at, procedures_from, program_of}
 use Rattle.plan_packed.specs.Slots.{bound, closed, closedᶜ, closedᵃ}
 use Rattle.plan_packed.specs.Refusals.{list_length, uses_unbound_slot}
 use Rattle.plan_packed.specs.Check.{checks, refusal}
@@ -42,13 +42,13 @@ from_inside b p (suc n) zero d h = omega arith
 from_inside b p (suc n) (suc m) d h = omega (arith, from_inside b (suc p) n m d h)
 
 -- procedure m of the program is procedure m of the plan
-pub procedures_are : (b : List ℕ) (m : ℕ) → m < procedures b → get_elem? (program_of_lem b).procedures m ≡ some (procedure_at b m)
-unfolding program_of_lem
+pub procedures_are : (b : List ℕ) (m : ℕ) → m < procedures b → get_elem? (program_of b).procedures m ≡ some (procedure_at b m)
+unfolding program_of
 procedures_are b m h = procedures_from_lem b 0 (procedures b) m m h (omega arith)
 
 -- and the program has no others
-pub procedures_inside : (b : List ℕ) (m : ℕ) (d : Procedure) → get_elem? (program_of_lem b).procedures m ≡ some d → (m < procedures b) × (d ≡ procedure_at b m)
-unfolding program_of_lem
+pub procedures_inside : (b : List ℕ) (m : ℕ) (d : Procedure) → get_elem? (program_of b).procedures m ≡ some d → (m < procedures b) × (d ≡ procedure_at b m)
+unfolding program_of
 procedures_inside b m d h =
     let q = from_inside b 0 (procedures b) m d h in
     let e = procedures_are b m q in
@@ -71,7 +71,7 @@ pick {P} (◌gives◌then◌ i {n} x xs) k p q = go (ℕ_discrete i k) (pick xs 
 
 -- ---- a term, by its tag
 
-callable : (b : List ℕ) (m k : ℕ) → m < procedures b → parameters b m ≡ k → Callable (program_of_lem b) m k
+callable : (b : List ℕ) (m k : ℕ) → m < procedures b → parameters b m ≡ k → Callable (program_of b) m k
 unfolding procedure_at
 callable b m k h e = (procedure_at b m, procedures_are b m h, e)
 
@@ -85,16 +85,16 @@ node_is b t k e = ap (λ (i : ℕ). node_of_tag i (term_at b t).value₁ (term_a
 module _ (b : List ℕ) where
   -- term t stands for expression e, which is well-formed where its slots are bound
   abbrev Good : ℕ → Expression → Type 0
-  Good t e = Stands (node_at b) t e × ((ρ : ℕ → Bool) → T (closed ρ e) → WellFormed (program_of_lem b) 1 ρ e)
+  Good t e = Stands (node_at b) t e × ((ρ : ℕ → Bool) → T (closed ρ e) → WellFormed (program_of b) 1 ρ e)
 
   abbrev Goodᶜ : ℕ → Condition → Type 0
-  Goodᶜ t c = Standsᶜ (node_at b) t c × ((ρ : ℕ → Bool) → T (closedᶜ ρ c) → WellFormedᶜ (program_of_lem b) 1 ρ c)
+  Goodᶜ t c = Standsᶜ (node_at b) t c × ((ρ : ℕ → Bool) → T (closedᶜ ρ c) → WellFormedᶜ (program_of b) 1 ρ c)
 
   -- and a list is as long as check 5 counts it
   abbrev Goodᵃ : ℕ → Arguments → Type 0
   Goodᵃ t es =
       Standsᵃ (node_at b) t es
-      × ((ρ : ℕ → Bool) → T (closedᵃ ρ es) → WellFormedᵃ (program_of_lem b) 1 ρ es)
+      × ((ρ : ℕ → Bool) → T (closedᵃ ρ es) → WellFormedᵃ (program_of b) 1 ρ es)
       × ((m : ℕ) → terms b ≤ t + m → count es ≡ list_length b m t)
 
   -- every term with at most n terms from it on stands for its tree
@@ -279,17 +279,17 @@ pub accepted_stands : (b : List ℕ) → refusal b ≡ none → (p : ℕ) → p 
 accepted_stands b h p q = (root_good b (its_trees b (accepted b h)) p q).0
 
 body_well_formed : (b : List ℕ) → Accepted b → (m : ℕ) → m < procedures b
-    → WellFormed (program_of_lem b) 1 (λ x. ltb x (procedure_at b m).parameters) (procedure_at b m).body
+    → WellFormed (program_of b) 1 (λ x. ltb x (procedure_at b m).parameters) (procedure_at b m).body
 unfolding procedure_at
 body_well_formed b a m q = (root_good b (its_trees b a) m q).1 (λ x. ltb x (parameters b m)) (subst T (sym (a.each_procedure m q).all_bound) tt)
 
 -- the program of a plan that is not refused is well-formed
-pub well_formed : (b : List ℕ) → refusal b ≡ none → WellFormedProgram (program_of_lem b)
+pub well_formed : (b : List ℕ) → refusal b ≡ none → WellFormedProgram (program_of b)
 well_formed b h =
     let a = accepted b h in
     record {
       main = callable b 0 0 a.some_procedure a.main_bare;
       bodies = λ m d e.
           let k = procedures_inside b m d e in
-          subst (λ (d : Procedure). WellFormed (program_of_lem b) 1 (λ x. ltb x d.parameters) d.body) (sym k.1) (body_well_formed b a m k.0);
+          subst (λ (d : Procedure). WellFormed (program_of b) 1 (λ x. ltb x d.parameters) d.body) (sym k.1) (body_well_formed b a m k.0);
     }

@@ -20,9 +20,9 @@ use Rattle.plan_packed.specs.Check.{checks, refusal}
 
 -- ---- 1 to 3: sizes, header, procedures
 
-pub length_of : (b : List ℕ) → wrong_length b ≡ false → length b ≡ plan_length b
+pub length_of_lem : (b : List ℕ) → wrong_length b ≡ false → length b ≡ plan_length b
 unfolding wrong_length
-length_of b h =
+length_of_lem b h =
     let x = eqb (length b) (plan_length b) in
     eqb-true _ _ (not-false x (neither (ltb (length b) 8) (not x) h).1)
 
@@ -130,9 +130,9 @@ sorted_of b t h =
     let h₁ = neither x y h₂.0 in
     record { as_root = none_of _ _ h₁.0; as_child = none_of _ _ h₁.1; as_call = h₂.1 }
 
-pub call_of : (b : List ℕ) (t : ℕ) → wrong_call b t ≡ false → tag_at b t ≡ 8 → list_length b (terms b) (term_at b t).value₂ ≡ parameters b (term_at b t).value₁
+pub call_of_lem : (b : List ℕ) (t : ℕ) → wrong_call b t ≡ false → tag_at b t ≡ 8 → list_length b (terms b) (term_at b t).value₂ ≡ parameters b (term_at b t).value₁
 unfolding wrong_call
-call_of b t h e =
+call_of_lem b t h e =
     let x = eqb (list_length b (terms b) (term_at b t).value₂) (parameters b (term_at b t).value₁) in
     let z : not x ≡ false = rw (eq-eqb (tag_at b t) 8 e) at h in
     eqb-true _ _ (not-false x z)

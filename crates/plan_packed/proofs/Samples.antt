@@ -10,7 +10,7 @@ use Rattle.plan_packed.specs.Syntax.{Signal, literal, variable, new, read, write
 use Rattle.plan_packed.specs.Syntax.{equal}
 use Rattle.plan_packed.specs.Syntax.{end, argument, Program}
 use Rattle.plan_packed.specs.Format.{Operand, absent, slot, binder, mask, field_name, procedure, expression, condition, list, Row, table}
-use Rattle.plan_packed.specs.Trees.{program_of_lem}
+use Rattle.plan_packed.specs.Trees.{program_of}
 use Rattle.plan_packed.specs.Check.{refusal}
 
 -- ---- the table
@@ -223,8 +223,8 @@ samples : List Sample
 unfolding sample_p sample_every_tag sample_signals sample_unbound
 samples = sample_p ∷ sample_every_tag ∷ sample_signals ∷ sample_unbound ∷ []
 
-samples_read : map (λ (s : Sample). program_of_lem s.plan) samples ≡ map (λ (s : Sample). s.program) samples
-unfolding program_of_lem samples
+samples_read : map (λ (s : Sample). program_of s.plan) samples ≡ map (λ (s : Sample). s.program) samples
+unfolding program_of samples
 samples_read = refl
 
 samples_checked : map (λ (s : Sample). refusal s.plan) samples ≡ map (λ (s : Sample). s.answer) samples

@@ -16,7 +16,7 @@ use Rattle.plan_packed.specs.Format.{terms, parameters, root, plan_length}
 use Rattle.plan_packed.specs.Refusals.{wrong_length, wrong_term}
 use Rattle.plan_packed.specs.Check.{checks}
 use Rattle.plan_packed.specs.Inner.Steps.{Sized, Headed, Right}
-use Rattle.plan_packed.proofs.Passing.{length_of, header_of_lem, procedure_of_lem}
+use Rattle.plan_packed.proofs.Passing.{length_of_lem, header_of_lem, procedure_of_lem}
 
 -- ---- what a check that finds nothing gives to the next
 
@@ -26,7 +26,7 @@ long_enough b h = ltb-false (length b) 8 (neither (ltb (length b) 8) (not (eqb (
 
 pub make_sized : (b : List ℕ) (procedures n : ℕ) → wrong_length b ≡ false → procedures ≡ Format.procedures b → n ≡ terms b → Sized b procedures n
 unfolding plan_length
-make_sized b procedures n h p q = record { procedures_are = p; terms_are = q; long = rw (p, q) (length_of b h) }
+make_sized b procedures n h p q = record { procedures_are = p; terms_are = q; long = rw (p, q) (length_of_lem b h) }
 
 -- checks 1 to 3 find nothing
 pub make_headed : (b : List ℕ) (procedures n : ℕ) → procedures ≡ Format.procedures b → n ≡ terms b → first_refusal (take 3 (checks b)) ≡ none

@@ -14,7 +14,7 @@ use Rattle.plan_packed.specs.Format.{parameters, root}
 use Rattle.plan_packed.specs.Trees.{binder_of, tree_at}
 use Rattle.plan_packed.specs.Slots.{closed, bound}
 use Rattle.plan_packed.specs.Refusals.{uses_unbound_slot}
-use Rattle.plan_packed.specs.Inner.Steps.{bit_of_lem, slots, with_slot}
+use Rattle.plan_packed.specs.Inner.Steps.{bit_of, slots, with_slot}
 use Rattle.format.proofs.BitLaws.{shl_one}
 
 -- ---- the slots of a mask
@@ -28,23 +28,23 @@ or_digit (suc (suc x)) y hx hy = absurd (omega arith)
 or_digit zero (suc (suc y)) hx hy = absurd (omega arith)
 or_digit (suc zero) (suc (suc y)) hx hy = absurd (omega arith)
 
-or_bit : (a b j : ℕ) → bit_of_lem (bit_or a b) j ≡ (bit_of_lem a j || bit_of_lem b j)
+or_bit : (a b j : ℕ) → bit_of (bit_or a b) j ≡ (bit_of a j || bit_of b j)
 or_bit a b j =
     ap (λ (x : ℕ). eqb x 1) (ap (λ (x : ℕ). x % 2) (or_shr a b j) ∙ or_mod (a / 2 ^ j) (b / 2 ^ j) 1)
     ∙ or_digit (a / 2 ^ j % 2) (b / 2 ^ j % 2) (omega arith) (omega arith)
 
-pow_bit : (x : ℕ) → bit_of_lem (2 ^ x) x ≡ true
+pow_bit : (x : ℕ) → bit_of (2 ^ x) x ≡ true
 pow_bit x = let e : 2 ^ x / 2 ^ x ≡ 1 = rw one-mul at (shl-shr 1 x) in rw e
 
-pow_above : (d j : ℕ) → bit_of_lem (2 ^ (suc d + j)) j ≡ false
+pow_above : (d j : ℕ) → bit_of (2 ^ (suc d + j)) j ≡ false
 pow_above d j =
     let q : 2 ^ (suc d + j) / 2 ^ j ≡ 2 ^ d * 2 = rw (pow-add, shl-shr, pow-suc) in
     rw (q, mul-mod_left)
 
-pow_is : (x j : ℕ) → bit_of_lem (2 ^ x) j ≡ eqb x j
+pow_is : (x j : ℕ) → bit_of (2 ^ x) j ≡ eqb x j
 pow_is x j = go (ℕ_discrete x j) (dec_lt j x)
   where
-    go : Dec (x ≡ j) → Dec (j < x) → bit_of_lem (2 ^ x) j ≡ eqb x j
+    go : Dec (x ≡ j) → Dec (j < x) → bit_of (2 ^ x) j ≡ eqb x j
     go (yes e) d = rw (eq-eqb x j e) (rw e (pow_bit j))
     go (no n) (yes h) =
         let e : suc (x - j - 1) + j ≡ x = omega arith in
@@ -58,7 +58,7 @@ bound_is m x = go (ℕ_discrete x 15)
   where
     go : Dec (x ≡ 15) → slots (with_slot m x) ≡ bound (binder_of x) (slots m)
     go (yes e) = rw (eq-eqb x 15 e)
-    go (no e) = rw (ne_eqb x 15 e) (fun_ext (λ y. or_bit m (2 ^ x) y ∙ rw (pow_is x y) (or_comm (bit_of_lem m y) (eqb x y))))
+    go (no e) = rw (ne_eqb x 15 e) (fun_ext (λ y. or_bit m (2 ^ x) y ∙ rw (pow_is x y) (or_comm (bit_of m y) (eqb x y))))
 
 ones_odd : (j : ℕ) → (2 ^ suc j - 1) % 2 ≡ 1
 ones_odd j = rw pow-suc (omega (arith, pow_pos j))
@@ -68,7 +68,7 @@ pub parameters_are : (k : ℕ) → slots (2 ^ k - 1) ≡ (λ x. ltb x k)
 unfolding slots
 parameters_are k = fun_ext (λ x. go x (dec_lt x k))
   where
-    go : (x : ℕ) → Dec (x < k) → bit_of_lem (2 ^ k - 1) x ≡ ltb x k
+    go : (x : ℕ) → Dec (x < k) → bit_of (2 ^ k - 1) x ≡ ltb x k
     go x (yes h) =
         let j = k - x - 1 in
         let e : suc j + x ≡ k = omega arith in

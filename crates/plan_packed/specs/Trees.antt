@@ -188,6 +188,6 @@ procedures_from b p zero = []
 procedures_from b p (suc n) = procedure_at b p ∷ procedures_from b (suc p) n
 
 -- the program that an accepted plan's bytes are
-unfoldable pub program_of_lem : List ℕ → Program
+unfoldable pub program_of : List ℕ → Program
 unfolding procedures_from procedures version volatiles version_of
-program_of_lem b = record { version = version_of (version b); volatiles = volatiles b; procedures = procedures_from b 0 (procedures b) }
+program_of b = record { version = version_of (version b); volatiles = volatiles b; procedures = procedures_from b 0 (procedures b) }

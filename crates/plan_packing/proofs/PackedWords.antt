@@ -35,9 +35,9 @@ pub if_word_lem : (x y z : ℕ) → 206158430208 + x * 33554432 + y * 32768 + z 
 unfolding word_of
 if_word_lem x y z = omega arith
 
-pub call_word : (m x : ℕ) → 274877906944 + m * 1073741824 + x * 1048576 ≡ word_of 8 m x 0
+pub call_word_lem : (m x : ℕ) → 274877906944 + m * 1073741824 + x * 1048576 ≡ word_of 8 m x 0
 unfolding word_of
-call_word m x = omega arith
+call_word_lem m x = omega arith
 
 -- ---- by the old bits
 

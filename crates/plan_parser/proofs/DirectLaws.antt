@@ -16,7 +16,7 @@ use Rattle.plan_parser_goals.specs.Inner.Moves.{Sight, Move, Go, Make, Stop}
 use Rattle.plan_parser_goals.proofs.Numbers.{make_goal}
 use Rattle.plan_parser_goals.proofs.MoveLaws.{make_is, moved, word_new, word_other, word_all, word_notify}
 use Rattle.plan_parser_goals.proofs.MoveLaws.{form_loose, form_refused, form_taken, form_term}
-use Rattle.plan_parser.specs.Inner.Stacks.{Entries, Looks, last_of_lem}
+use Rattle.plan_parser.specs.Inner.Stacks.{Entries, Looks, last_of}
 use Rattle.plan_parser.specs.Inner.Making.{Makeable}
 use Rattle.plan_parser.specs.Inner.Reading.{State, Going, NoneLeft, Found, Went, Turned}
 use Rattle.plan_parser.specs.Inner.Turning.{number_of, sight_of, Ready, Turns, MadeOr, FormOf, TakenBy, ValueOf, Misplaced}
@@ -40,12 +40,12 @@ token_inside tokens i = choice (dec_lt i (length tokens))
 sight_looks : (tokens words values : List ℕ) (s : Standing) → Entries 0 values s.values → Looks tokens s.at words values s.values
     (sight_of tokens words values s)
 sight_looks tokens words values s small =
-    looks tokens words values s.at s.values (last_of_lem values s.values) (get_or tokens s.at 69) (get_or tokens (s.at + 1) 69)
+    looks tokens words values s.at s.values (last_of values s.values) (get_or tokens s.at 69) (get_or tokens (s.at + 1) 69)
     (get_or tokens (s.at + 2) 69) _ refl small (refl, token_inside tokens s.at) (refl, token_inside tokens (s.at + 1))
-    (refl, token_inside tokens (s.at + 2)) refl (number_of (last_of_lem values s.values)) refl
+    (refl, token_inside tokens (s.at + 2)) refl (number_of (last_of values s.values)) refl
 
 -- the number of the last value has room for a field's bit
-pub mask_small : (values : List ℕ) (n v m : ℕ) → Entries 0 values n → v ≡ last_of_lem values n → m ≡ number_of v → m < 4294967296
+pub mask_small : (values : List ℕ) (n v m : ℕ) → Entries 0 values n → v ≡ last_of values n → m ≡ number_of v → m < 4294967296
 mask_small values n v m h e q = choice (dec_lt v 1024)
   where
     choice : Dec (v < 1024) → m < 4294967296

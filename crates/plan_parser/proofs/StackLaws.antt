@@ -18,7 +18,7 @@ use Rattle.plan_parsing.specs.Goals.{Goal, expect, Value, number, of_expression,
 use Rattle.plan_parsing.specs.Plan.{procedure_goals}
 use Rattle.plan_parser_goals.specs.Inner.Encoded.{goal_of, goals_of, stacked, value_of, term_value, values_of, value_sort}
 use Rattle.plan_parser_goals.specs.Inner.Moves.{pushed}
-use Rattle.plan_parser.specs.Inner.Stacks.{Stacked, Entries, Put, Looks, last_of_lem, operand_at}
+use Rattle.plan_parser.specs.Inner.Stacks.{Stacked, Entries, Put, Looks, last_of, operand_at}
 use Rattle.plan_parser_goals.proofs.Numbers.{expect_goal, stacked_some, pushed_some}
 
 -- ---- goals
@@ -178,21 +178,21 @@ six_few p t a b c d e f ha hb hc hd he hf =
 
 -- ---- what a step sees
 
-pub last_none : (values : List ℕ) (n : ℕ) → n ≡ 0 → 1024 ≡ last_of_lem values n
-unfolding last_of_lem
+pub last_none : (values : List ℕ) (n : ℕ) → n ≡ 0 → 1024 ≡ last_of values n
+unfolding last_of
 last_none values n e = rw (eq-eqb n 0 e)
 
-pub last_some : (values : List ℕ) (n : ℕ) → (n ≡ 0 → ⊥) → get_or values (n - 1) 0 ≡ last_of_lem values n
-unfolding last_of_lem
+pub last_some : (values : List ℕ) (n : ℕ) → (n ≡ 0 → ⊥) → get_or values (n - 1) 0 ≡ last_of values n
+unfolding last_of
 last_some values n d = rw (ne_eqb n 0 d)
 
-last_value : (words values : List ℕ) (n : ℕ) → value_at (values_of words values n) 0 ≡ value_of words (last_of_lem values n)
-unfolding values_of last_of_lem value_of
+last_value : (words values : List ℕ) (n : ℕ) → value_at (values_of words values n) 0 ≡ value_of words (last_of values n)
+unfolding values_of last_of value_of
 last_value words values zero = refl
 last_value words values (suc n) = let e : suc n - 1 ≡ n = omega arith in rw (ne_eqb (suc n) 0 (λ d. omega arith), e)
 
-pub last_small : (values : List ℕ) (n : ℕ) → Entries 0 values n → last_of_lem values n < 1024 + 4294967296
-unfolding last_of_lem
+pub last_small : (values : List ℕ) (n : ℕ) → Entries 0 values n → last_of values n < 1024 + 4294967296
+unfolding last_of
 last_small values zero h = omega arith
 last_small values (suc n) h = let e : suc n - 1 ≡ n = omega arith in rw (ne_eqb (suc n) 0 (λ d. omega arith), e) (h n (omega arith)).1
 
@@ -216,7 +216,7 @@ number_of words v = choice (ltb v 1024)
     choice true = term_number words v
     choice false = refl
 
-module _ (tokens words values : List ℕ) (at n v first second third sort : ℕ) (e : v ≡ last_of_lem values n) (small : Entries 0 values n)
+module _ (tokens words values : List ℕ) (at n v first second third sort : ℕ) (e : v ≡ last_of values n) (small : Entries 0 values n)
     (p : (first ≡ get_or tokens at 69) × (69 ≤ first + 69 * (length tokens - at)))
     (q : (second ≡ get_or tokens (at + 1) 69) × (69 ≤ second + 69 * (length tokens - (at + 1))))
     (r : (third ≡ get_or tokens (at + 2) 69) × (69 ≤ third + 69 * (length tokens - (at + 2)))) (s : sort ≡ value_sort (value_of words v)) where

@@ -19,7 +19,7 @@ use turns::{Standing, Turn};
 
 // An expression: its root, the parameters of its procedure, the terms that there is room for, and the next token's place. Or why reading stopped, and
 // before which token. Or the arrays are too short for it, and not for every text.
-#[derive(Drop)]
+#[derive(Clone, Copy)]
 pub enum Parsed {
     Read {
         root: usize,

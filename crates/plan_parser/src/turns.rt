@@ -8,7 +8,7 @@ ghost use Rattle.plan_parser.specs.Inner.Turning.{Ready, MadeOr, TurnedAny};
 use crate::{arguments, followers, operands, stacks, terms};
 
 // Where reading stands: the next token's place, how many goals and values there are, how many terms are left to be made.
-#[derive(Drop)]
+#[derive(Clone, Copy)]
 pub struct Standing {
     pub at: usize,
     pub goals: usize,
@@ -17,7 +17,7 @@ pub struct Standing {
 }
 
 // Reading goes on, or stops before the token at a place.
-#[derive(Drop)]
+#[derive(Clone, Copy)]
 pub enum Turn {
     On(Standing),
     Stop { reason: usize, at: usize },

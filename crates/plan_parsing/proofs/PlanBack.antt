@@ -11,7 +11,7 @@ use lib.ListN.{length, get_or}
 use borrow.Author.Tests.{lt-ltb, le-ltb, ne_eqb}
 use Rattle.plan_packed.specs.Syntax.{Procedure, Program}
 use Rattle.plan_packed.specs.Format.{fields_from}
-use Rattle.plan_packed.specs.Trees.{program_of_lem}
+use Rattle.plan_packed.specs.Trees.{program_of}
 use Rattle.plan_packed.specs.Check.{refusal}
 use Rattle.plan_written.specs.Terms.{terms_of, size, mask_of}
 use Rattle.plan_written.specs.Written.{size_of_all, version_number}
@@ -266,5 +266,5 @@ program_back g r =
     back = program_is g (2 ^ 31 + mask_of fs) (sym r.monitor_volatile)
 
 -- what is shown of an accepted plan is read back as its program
-pub plan_back : (b : List ℕ) → refusal b ≡ none → read_plan (shown_plan (program_of_lem b) ++ (text_end ∷ [])) ≡ plan (program_of_lem b)
-plan_back b h = program_back (program_of_lem b) (right_program b h)
+pub plan_back : (b : List ℕ) → refusal b ≡ none → read_plan (shown_plan (program_of b) ++ (text_end ∷ [])) ≡ plan (program_of b)
+plan_back b h = program_back (program_of b) (right_program b h)

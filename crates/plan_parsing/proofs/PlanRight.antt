@@ -10,7 +10,7 @@ use lib.Dec.{eqb, ltb}
 use lib.ListN.{length, get_or, drop}
 use borrow.Author.Tests.{ltb-true, eqb-true, ne_eqb, not-false}
 use Rattle.plan_packed.specs.Syntax.{Procedure, Program}
-use Rattle.plan_packed.specs.Trees.{program_of_lem}
+use Rattle.plan_packed.specs.Trees.{program_of}
 use Rattle.plan_packed.specs.Slots.{closed}
 use Rattle.plan_packed.specs.Check.{refusal}
 use Rattle.plan_written.specs.Terms.{terms_of, size, mask_of}
@@ -277,8 +277,8 @@ program_right ts g ended e =
     subst RightProgram (sym w.several.program) (read_right ts w.version w.fields w.ascending w.tokens w.passed g w.several)
 
 -- what is read passes the check, and its bytes are a plan of it
-pub read_passes : (ts : List ℕ) (g : Program) → Ended ts → read_plan ts ≡ plan g → (refusal (written g) ≡ none) × (program_of_lem (written g) ≡ g)
+pub read_passes : (ts : List ℕ) (g : Program) → Ended ts → read_plan ts ≡ plan g → (refusal (written g) ≡ none) × (program_of (written g) ≡ g)
 read_passes ts g ended e = let r = program_right ts g ended e in (right_passes g r, program_is g r)
 
-pub text_passes : (text : List ℕ) (g : Program) → read_plan (codes_of text) ≡ plan g → (refusal (written g) ≡ none) × (program_of_lem (written g) ≡ g)
+pub text_passes : (text : List ℕ) (g : Program) → read_plan (codes_of text) ≡ plan g → (refusal (written g) ≡ none) × (program_of (written g) ≡ g)
 text_passes text g e = read_passes (codes_of text) g (codes_ended text) e

@@ -16,7 +16,7 @@ use Rattle.plan_written.specs.Terms.{mask_of, slot_of}
 use Rattle.plan_notation.specs.Shown.{binder_token, loose, testing, prefix, tight}
 use Rattle.plan_written.proofs.RightTerms.{slot_again}
 use Rattle.plan_written.proofs.Right.{Ascending, RightFields, RightSlot, RightField, RightCall}
-use Rattle.plan_notation.specs.Tokens.{in_word, then_word, else_word, do_word, and_word, true_word, not_word, null_word, new_word, let_word, if_word, while_word, call_word_lem}
+use Rattle.plan_notation.specs.Tokens.{in_word, then_word, else_word, do_word, and_word, true_word, not_word, null_word, new_word, let_word, if_word, while_word, call_word}
 use Rattle.plan_notation.specs.Tokens.{synch_word, opening, closing, comma, dot, equals, becomes}
 use Rattle.plan_parsing.specs.Goals.{Sort, expression, condition, Goal, operand, more, make, binder, fields, further, Value, number, of_expression}
 use Rattle.plan_parsing.specs.Goals.{of_condition, of_arguments, number_in, made, Form, form, forms, notify_all_form, argument_goals}
@@ -306,7 +306,7 @@ module _ {counts : List ℕ} where
         }
 
   pub call_reads : {ts : List ℕ} (p : ℕ) (es : Arguments) {k : ℕ} → RightCall counts p es → ReadsArguments counts ts es k
-      → Reads counts bare tight (call_word_lem ∷ p ∷ opening ∷ ts) (of_expression (Expression.call p es)) (suc (0 + k + 0))
+      → Reads counts bare tight (call_word ∷ p ∷ opening ∷ ts) (of_expression (Expression.call p es)) (suc (0 + k + 0))
   unfolding step operand_step forms made
   call_reads {ts} p es right read =
       record {

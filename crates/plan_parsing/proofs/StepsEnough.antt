@@ -8,7 +8,7 @@ use lib.Dec.{eqb, ltb, leb}
 use lib.ListN.{length, length-append, length-drop, get_or, drop}
 use borrow.Author.Tests.{ltb-true, leb-true, eqb-true}
 use Rattle.plan_packed.proofs.Decoded.{Cases, done, ◌gives◌then◌, pick}
-use Rattle.plan_notation.specs.Tokens.{all_word, and_word, true_word, not_word, null_word, new_word, let_word, if_word, while_word, call_word_lem, fork_word, join_word}
+use Rattle.plan_notation.specs.Tokens.{all_word, and_word, true_word, not_word, null_word, new_word, let_word, if_word, while_word, call_word, fork_word, join_word}
 use Rattle.plan_notation.specs.Tokens.{synch_word, wait_word, notify_word, opening, closing, comma, dot, equals, becomes, dash, text_end}
 use Rattle.plan_parsing.specs.Goals.{Sort, Goal, expect, operand, more, make, binder, fields, procedure, further, Value, number, value_at, Form, forms}
 use Rattle.plan_parsing.specs.Goals.{notify_all_form, argument_goals}
@@ -46,7 +46,7 @@ few_in_form =
     then let_word gives omega arith
     then if_word gives omega arith
     then while_word gives omega arith
-    then call_word_lem gives omega arith
+    then call_word gives omega arith
     then fork_word gives omega arith
     then join_word gives omega arith
     then synch_word gives omega arith

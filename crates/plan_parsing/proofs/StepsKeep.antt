@@ -17,7 +17,7 @@ use Rattle.plan_written.proofs.Right.{Ascending, Right, Rightᵃ}
 use Rattle.plan_written.proofs.OrderedFields.{right_in_order}
 use Rattle.plan_written.proofs.RightPlans.{right_slot}
 use Rattle.plan_notation.specs.Shown.{loose}
-use Rattle.plan_notation.specs.Tokens.{all_word, and_word, true_word, not_word, null_word, new_word, let_word, if_word, while_word, call_word_lem, fork_word, join_word}
+use Rattle.plan_notation.specs.Tokens.{all_word, and_word, true_word, not_word, null_word, new_word, let_word, if_word, while_word, call_word, fork_word, join_word}
 use Rattle.plan_notation.specs.Tokens.{synch_word, wait_word, notify_word, opening, closing, comma, dot, equals, becomes, dash}
 use Rattle.plan_parsing.specs.Goals.{Sort, either, expression, condition, Goal, expect, operand, more, make, binder, fields, procedure, further, Value}
 use Rattle.plan_parsing.specs.Goals.{number, of_expression, of_condition, of_arguments, number_in, made, Form, forms, notify_all_form, argument_goals}
@@ -78,7 +78,7 @@ module _ (counts : List ℕ) (K : List Value → Type 0) where
         then let_word gives (λ x rx. (omega arith, λ e r. (omega arith, λ e' r'. (omega arith, ((right_slot x rx, r, r'), k)))))
         then if_word gives (λ c rc. (omega arith, λ e r. (omega arith, λ e' r'. (omega arith, ((rc, r, r'), k)))))
         then while_word gives (λ c rc. (omega arith, λ e r. (omega arith, ((rc, r), k))))
-        then call_word_lem gives (λ p es rp r. (omega arith, ((rp, r), k)))
+        then call_word gives (λ p es rp r. (omega arith, ((rp, r), k)))
         then fork_word gives (λ e r. (omega arith, (r, k)))
         then join_word gives (λ e r. (omega arith, (r, k)))
         then synch_word gives (λ e r. (omega arith, λ e' r'. (omega arith, ((r, r'), k))))

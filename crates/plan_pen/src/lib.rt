@@ -11,7 +11,7 @@ ghost use Rattle.plan_pen.specs.Inner.Looks.{look_rows};
 use looks::Looks;
 
 // The column, from 0; how many parentheses, lets and ifs have begun and not ended; the token before.
-#[derive(Drop)]
+#[derive(Clone, Copy)]
 pub struct Pen {
     pub column: usize,
     pub depth: usize,
@@ -19,7 +19,7 @@ pub struct Pen {
 }
 
 // A line feed or none, and spaces.
-#[derive(Drop)]
+#[derive(Clone, Copy)]
 pub struct Gap {
     pub spaces: usize,
     pub feed: bool,

@@ -13,7 +13,7 @@ use plan_notation::tokens;
 use plan_parser::Parsed;
 
 // The version, the mask of volatile fields, and the token behind both.
-#[derive(Drop)]
+#[derive(Clone, Copy)]
 struct Heading {
     version: usize,
     mask: usize,
@@ -128,7 +128,7 @@ fn header(tokens: &[u8]) -> Heading
 }
 
 // What comes of a plan's tokens: a plan, held in the arrays; or why it is none, and before which token; or the arrays are too short, and not for every text.
-#[derive(Drop)]
+#[derive(Clone, Copy)]
 pub enum Outcome {
     Plan {
         version: usize,
@@ -154,7 +154,7 @@ pub const SLOTS: usize = 2;
 pub const END: usize = 3;
 
 // After a procedure: the next one, from a token and with so many terms left; or it was the last; or a fault; or the arrays are too short.
-#[derive(Drop)]
+#[derive(Clone, Copy)]
 enum Next {
     On {
         at: usize,

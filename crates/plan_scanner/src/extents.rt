@@ -9,7 +9,7 @@ use crate::classes::{Classes, HASH};
 use byte_numbers::wide;
 
 // A name: its number, and the place of the byte behind it.
-#[derive(Drop)]
+#[derive(Clone, Copy)]
 pub struct Name {
     pub value: usize,
     pub end: usize,

@@ -19,7 +19,7 @@ use Rattle.plan_packed.specs.Syntax.{Expression, Condition, Arguments}
 use Rattle.plan_packed.specs.Trees.{binder_of, nodes, node_of, expression_of, condition_of, arguments_of}
 use Rattle.plan_packed.specs.Inner.Operands.{tag_of, slot_bits}
 use Rattle.plan_packed.specs.Inner.Rows.{number_at}
-use Rattle.plan_packed.specs.Inner.Steps.{Right, Loaded, Ordered, word_at, in_word, bit_of_lem, slots, with_slot, tree_in, condition_in, list_in, all_times}
+use Rattle.plan_packed.specs.Inner.Steps.{Right, Loaded, Ordered, word_at, in_word, bit_of, slots, with_slot, tree_in, condition_in, list_in, all_times}
 use Rattle.plan_packed.proofs.NodeOrder.{ordered, tree_is}
 use Rattle.plan_packed.proofs.Shown.{root_below}
 use Rattle.plan_packed.proofs.SingleTerm.{row_of}
@@ -34,13 +34,13 @@ use Rattle.plan_scopes.proofs.Terms.{handed_at, later}
 
 -- these slots are bound
 abbrev Binds : (ℕ → Bool) → ℕ → Type 0
-Binds ρ m = (x : ℕ) → bit_of_lem m x ≡ true → ρ x ≡ true
+Binds ρ m = (x : ℕ) → bit_of m x ≡ true → ρ x ≡ true
 
 -- a bit of a byte of a number is a bit of the number
-byte_bit : (m x : ℕ) → bit_of_lem (m % 256) x ≡ true → bit_of_lem m x ≡ true
+byte_bit : (m x : ℕ) → bit_of (m % 256) x ≡ true → bit_of m x ≡ true
 byte_bit m x = go (dec_lt x 8)
   where
-    go : Dec (x < 8) → bit_of_lem (m % 256) x ≡ true → bit_of_lem m x ≡ true
+    go : Dec (x < 8) → bit_of (m % 256) x ≡ true → bit_of m x ≡ true
     go (yes h) e =
         let j = 7 - x in
         let k : (j + 1) + x ≡ 8 = omega arith in
@@ -86,7 +86,7 @@ Given s t c = (t < c.index) × (get_or s c.index 0 ≡ c.scope)
 
 -- term t is no variable, or its slot is in its scope
 abbrev pub Seen : List ℕ → List ℕ → ℕ → Type 0
-Seen ws s t = tag_of (get_or ws t 0) ≡ 1 → bit_of_lem (get_or s t 0) (slot_bits (get_or ws t 0)) ≡ true
+Seen ws s t = tag_of (get_or ws t 0) ≡ 1 → bit_of (get_or s t 0) (slot_bits (get_or ws t 0)) ≡ true
 
 module _ (ws : List ℕ) (s : List ℕ) (o : Ordered ws) where
   module _ (t : ℕ) (ih : (c : ℕ) → t < c → Closes ws s c) (seen : Seen ws s t) where
@@ -102,7 +102,7 @@ module _ (ws : List ℕ) (s : List ℕ) (o : Ordered ws) where
       of c g = ih c g.0 ρ (rw g.1 f)
 
     abbrev ByTag : ℕ → Type 0
-    ByTag k = (k ≡ 1 → bit_of_lem m (slot_bits w) ≡ true) → Each (Given s t) (handed_by_row m w k) → (ρ : ℕ → Bool) → Binds ρ m
+    ByTag k = (k ≡ 1 → bit_of m (slot_bits w) ≡ true) → Each (Given s t) (handed_by_row m w k) → (ρ : ℕ → Bool) → Binds ρ m
         → (closed ρ (expression_of (tree_in ws) (condition_in ws) (list_in ws) (row_of k w)) ≡ true)
         × (closedᶜ ρ (condition_of (tree_in ws) (condition_in ws) (row_of k w)) ≡ true)
         × (closedᵃ ρ (arguments_of (tree_in ws) (list_in ws) (row_of k w)) ≡ true)

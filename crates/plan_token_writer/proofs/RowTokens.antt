@@ -21,7 +21,7 @@ use Rattle.plan_packed.proofs.Children.{list_ends}
 use Rattle.plan_packed.proofs.Walk.{expr_is, cond_is, list_is}
 use Rattle.plan_notation.specs.Tokens.{then_word, else_word, do_word, all_word, and_word, true_word, not_word, null_word, let_word, if_word, while_word}
 use Rattle.plan_notation.specs.Tokens as tokens
-use Rattle.plan_notation.specs.Tokens.{call_word_lem, fork_word, join_word, synch_word, wait_word, notify_word, opening, closing, comma, dot, equals, becomes, dash}
+use Rattle.plan_notation.specs.Tokens.{call_word, fork_word, join_word, synch_word, wait_word, notify_word, opening, closing, comma, dot, equals, becomes, dash}
 use Rattle.plan_notation.specs.Shown.{loose, testing, prefix, tight, grouped, binder_token, signal_tokens, shown, shownᶜ, shownᵃ, shown_further}
 use Rattle.plan_token_writer.specs.Inner.Items.{token, child, as_condition, as_arguments, as_further, shown_as, item_tokens, tokens_in, bits_behind, operand_by, binder_on}
 use Rattle.plan_token_writer.specs.Inner.Items.{item_of}
@@ -155,8 +155,8 @@ module _ (ws : List ℕ) (o : Ordered ws) (t : ℕ) where
     unfolding row_items item_rows item_of operand_by bits_behind node_of in_word layout table nodes expression_of shown shown_as binder_of
     row_8 e n =
         rw (le-ltb 3 d (omega arith))
-        (tokens_are ws (items_from w 8 2 4) ((call_word_lem ∷ []) ∷ (procedure_bits w ∷ []) ∷ (opening ∷ []) ∷ shownᵃ (list_in ws (list_bits w)) ∷ []) (
-          token_is ws call_word_lem (omega arith),
+        (tokens_are ws (items_from w 8 2 4) ((call_word ∷ []) ∷ (procedure_bits w ∷ []) ∷ (opening ∷ []) ∷ shownᵃ (list_in ws (list_bits w)) ∷ []) (
+          token_is ws call_word (omega arith),
           (token_is ws (procedure_bits w) (small₅ _), (token_is ws opening (omega arith), (child_is ws 8 (list_bits w) (omega arith) (small₁₀ _), tt))),
         ))
         ∙ sym (ap (shown d) (expr_is ws o t 8 e))

@@ -10,7 +10,7 @@ use lib.ListN.{length, length-append, get_or}
 use borrow.Author.Tests.{le-leb, lt-leb}
 use Rattle.format.proofs.Ranges.{by_range}
 use Rattle.plan_notation.specs.Tokens.{opening, closing}
-use Rattle.plan_token_writer.specs.Inner.Items.{token, item_tokens, tokens_in, item_rows, row_number, items_from, row_items, stack_of, InContext, key_of_lem, weight}
+use Rattle.plan_token_writer.specs.Inner.Items.{token, item_tokens, tokens_in, item_rows, row_number, items_from, row_items, stack_of, InContext, key_of, weight}
 use Rattle.plan_token_writer.proofs.ItemTokens.{tokens_append}
 use Rattle.plan_token_writer.proofs.Operands.{items_length, few_items}
 use Rattle.plan_token_writer.proofs.Later.{LaterItem, Later}
@@ -33,8 +33,8 @@ top_item a (suc n) h = ap (λ (m : ℕ). get_or a m 0 ∷ stack_of a m) (one n)
 
 -- ---- what is left to do
 
-key_small : (is : List ℕ) → key_of_lem is ≤ 1024
-unfolding key_of_lem
+key_small : (is : List ℕ) → key_of is ≤ 1024
+unfolding key_of
 key_small [] = omega arith
 key_small (i ∷ is) = go (leb 16384 i)
   where
@@ -56,8 +56,8 @@ module _ (words : List ℕ) where
       by a b c k l h e m = omega arith
 
   -- the first item of a row is a token, or at a later term
-  first_less : (t j : ℕ) (js : List ℕ) → t < 1024 → LaterItem t j → key_of_lem (j ∷ js) < 1024 - t
-  unfolding key_of_lem
+  first_less : (t j : ℕ) (js : List ℕ) → t < 1024 → LaterItem t j → key_of (j ∷ js) < 1024 - t
+  unfolding key_of
   first_less t j js h l = go (dec_le 16384 j)
     where
       go : Dec (16384 ≤ j) → cond (leb 16384 j) 0 (1024 - j % 1024) < 1024 - t
@@ -67,9 +67,9 @@ module _ (words : List ℕ) where
           by : (x t : ℕ) → t < 1024 → t < x → 1024 - x < 1024 - t
           by x t h k = omega arith
 
-  key_of : (i : ℕ) (is : List ℕ) → i < 16384 → key_of_lem (i ∷ is) ≡ 1024 - i % 1024
-  unfolding key_of_lem
-  key_of i is h = rw (lt-leb 16384 i h)
+  key_of_lem : (i : ℕ) (is : List ℕ) → i < 16384 → key_of (i ∷ is) ≡ 1024 - i % 1024
+  unfolding key_of
+  key_of_lem i is h = rw (lt-leb 16384 i h)
 
   -- a term gives way to its row's items
   pub expanded_less : (i : ℕ) (js is : List ℕ) → i < 16384 → 0 < length js → Later (i % 1024) js → tokens_in words js ≡ item_tokens words i
@@ -79,7 +79,7 @@ module _ (words : List ℕ) where
   expanded_less i (j ∷ js) is h n l e =
       by _ _ _ _ _ _ (ap length (tokens_append words (j ∷ js) is) ∙ length-append (tokens_in words (j ∷ js)) (tokens_in words is)) (ap length e)
       (tokens_length i is)
-      (first_less (i % 1024) j (js ++ is) (omega arith) l.0) (key_of i is h)
+      (first_less (i % 1024) j (js ++ is) (omega arith) l.0) (key_of_lem i is h)
     where
       by : (a b c d k l : ℕ) {m : ℕ} → a ≡ b + c → b ≡ d → {f : ℕ} → f ≡ d + c → k < m → l ≡ m → 1025 * a + k < 1025 * f + l
       by a b c d k l p q r s t = omega arith

@@ -182,7 +182,7 @@ fn put_new(area: &mut [u8], at: usize, mask: usize) -> usize
 }
 
 // Where writing stands: the items on the stack, and the place of the next token.
-#[derive(Drop)]
+#[derive(Clone, Copy)]
 struct Standing {
     top: usize,
     at: usize,

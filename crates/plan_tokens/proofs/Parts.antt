@@ -10,7 +10,7 @@ use Rattle.plan_packed.specs.Syntax.{Procedure}
 use Rattle.plan_packed.specs.Format
 use Rattle.plan_packed.specs.Format.{version, terms, volatiles, parameters, root, fields_from}
 use Rattle.plan_packed.specs.Inner.Steps.{Right, Ordered, tree_in}
-use Rattle.plan_packed.specs.Trees.{tree_at, procedure_at, procedures_from, program_of_lem}
+use Rattle.plan_packed.specs.Trees.{tree_at, procedure_at, procedures_from, program_of}
 use Rattle.plan_packed.specs.Check.{refusal}
 use Rattle.plan_packed.proofs.Accepted.{Accepted, accepted}
 use Rattle.plan_packed.proofs.Passing.{all_right}
@@ -45,7 +45,7 @@ rest_more b p h = let e : Format.procedures b - p ≡ suc (Format.procedures b -
 rest_none : (b : List ℕ) (p : ℕ) → Format.procedures b ≤ p → rest_from b p ≡ []
 rest_none b p h = let e : Format.procedures b - p ≡ 0 = omega arith in ap (procedures_from b p) e ∙ from_none b p
 
-rest_all : (b : List ℕ) → rest_from b 0 ≡ (program_of_lem b).procedures
+rest_all : (b : List ℕ) → rest_from b 0 ≡ (program_of b).procedures
 rest_all b = let e : Format.procedures b - 0 ≡ Format.procedures b = omega arith in ap (procedures_from b 0) e ∙ sym (program_procedures b)
 
 -- ---- their tokens
@@ -176,43 +176,43 @@ module _ (plan words : List ℕ) (r : Given plan words) where
   abbrev main : List ℕ
   main = shown loose (tree_at plan (root plan 0))
 
-  main_is : main_first (program_of_lem plan).procedures ≡ main ++ procedure_tokens 1 (rest_from plan 1)
+  main_is : main_first (program_of plan).procedures ≡ main ++ procedure_tokens 1 (rest_from plan 1)
   main_is =
       ap main_first (sym (rest_all plan) ∙ rest_more plan 0 some)
       ∙ main_more (procedure_at plan 0) (rest_from plan 1)
       ∙ ap (λ (ts : List ℕ). ts ++ procedure_tokens 1 (rest_from plan 1)) (ap (shown loose) (body_is plan r.passes 0))
 
-  version_is : version_number (program_of_lem plan).version ≡ version plan
+  version_is : version_number (program_of plan).version ≡ version plan
   version_is = ap version_number (version_of_lem plan r.passes) ∙ version_back (version plan) version_small
 
-  pub whole_is : header_tokens plan ++ (main ++ procedures_behind plan) ≡ shown_plan (program_of_lem plan)
+  pub whole_is : header_tokens plan ++ (main ++ procedures_behind plan) ≡ shown_plan (program_of plan)
   unfolding header_tokens shown_plan procedures_behind
   whole_is =
       ap₂ (λ (v : ℕ) (ts : List ℕ). version_word ∷ v ∷ volatile_tokens (fields_from (volatiles plan) 1 31) ++ ts) (sym version_is) (sym main_is)
-      ∙ ap (λ (m : ℕ). version_word ∷ version_number (program_of_lem plan).version ∷ volatile_tokens (fields_from m 1 31) ++ main_first (program_of_lem plan).procedures)
+      ∙ ap (λ (m : ℕ). version_word ∷ version_number (program_of plan).version ∷ volatile_tokens (fields_from m 1 31) ++ main_first (program_of plan).procedures)
       (sym (mask_is plan r.passes))
 
-  pub plan_few : length (shown_plan (program_of_lem plan)) ≤ 11490
-  plan_few = (plan_fit (program_of_lem plan) (right_program plan r.passes)).few
+  pub plan_few : length (shown_plan (program_of plan)) ≤ 11490
+  plan_few = (plan_fit (program_of plan) (right_program plan r.passes)).few
 
   -- a plan has at most three tokens for each of its bytes, and ten more
-  pub plan_within : length (shown_plan (program_of_lem plan)) ≤ 3 * length plan + 10
+  pub plan_within : length (shown_plan (program_of plan)) ≤ 3 * length plan + 10
   unfolding shown_plan
   plan_within =
       in_bytes _ _ _ _ _ _
-      (ap (λ (n : ℕ). suc (suc n)) (length-append (volatile_tokens (fields_from (program_of_lem plan).volatiles 1 31)) (main_first (program_of_lem plan).procedures)))
-      (volatiles_few (program_of_lem plan).volatiles)
-      (rw (total_is plan r.passes, count_is plan r.passes) at (main_few (counts_in (program_of_lem plan).procedures) (program_of_lem plan).procedures
+      (ap (λ (n : ℕ). suc (suc n)) (length-append (volatile_tokens (fields_from (program_of plan).volatiles 1 31)) (main_first (program_of plan).procedures)))
+      (volatiles_few (program_of plan).volatiles)
+      (rw (total_is plan r.passes, count_is plan r.passes) at (main_few (counts_in (program_of plan).procedures) (program_of plan).procedures
       (right_program plan r.passes).each_procedure)) sized
 
-  whole_length : length (header_tokens plan) + (length main + length (procedures_behind plan)) ≡ length (shown_plan (program_of_lem plan))
+  whole_length : length (header_tokens plan) + (length main + length (procedures_behind plan)) ≡ length (shown_plan (program_of plan))
   whole_length =
       let a = ap length (sym whole_is) ∙ length-append (header_tokens plan) (main ++ procedures_behind plan) in
       let b = length-append main (procedures_behind plan) in
       omega (arith, a, b)
 
   -- there is room for each part
-  module _ (n : ℕ) (room : length (shown_plan (program_of_lem plan)) ≤ n) where
+  module _ (n : ℕ) (room : length (shown_plan (program_of plan)) ≤ n) where
     pub room_for_header : length (header_tokens plan) ≤ n
     room_for_header = omega (arith, whole_length)
 

@@ -10,7 +10,7 @@ ghost use Rattle.plan_tree_writer.specs.Inner.Left.{singles, pairs, pair_first, 
 use plan_operands::tags;
 
 // What is left to write of a tree: nothing, and the next term has this number; or the tree at a term, whose root has this number.
-#[derive(Drop)]
+#[derive(Clone, Copy)]
 enum Left {
     Done(usize),
     At(usize, usize),
@@ -65,7 +65,7 @@ fn pair_second(word: usize) -> usize
 }
 
 // An expression but for its last child.
-#[cycle(begin_condition_begin_expression_begin_list_write_child_write_condition_write_expression_write_list)]
+#[cycle(tree_writer)]
 fn begin_expression(
     words: &[usize],
     term: usize,
@@ -117,7 +117,7 @@ fn begin_expression(
 }
 
 // A condition but for its last child, if that is a condition.
-#[cycle(begin_condition_begin_expression_begin_list_write_child_write_condition_write_expression_write_list)]
+#[cycle(tree_writer)]
 fn begin_condition(
     words: &[usize],
     term: usize,
@@ -157,7 +157,7 @@ fn begin_condition(
 }
 
 // An argument of a call, or the end of its list.
-#[cycle(begin_condition_begin_expression_begin_list_write_child_write_condition_write_expression_write_list)]
+#[cycle(tree_writer)]
 fn begin_list(words: &[usize], term: usize, area: &mut [u8], base: usize, number: usize) -> Left
     requires ordered { Ordered words.now × (term < 1024) }
     requires room { Room (lists_in words.now term) base number area.old }
@@ -176,7 +176,7 @@ fn begin_list(words: &[usize], term: usize, area: &mut [u8], base: usize, number
 }
 
 // An expression that is not a term's last child: in place if it has no children, else by a call.
-#[cycle(begin_condition_begin_expression_begin_list_write_child_write_condition_write_expression_write_list)]
+#[cycle(tree_writer)]
 fn write_child(words: &[usize], term: usize, area: &mut [u8], base: usize, number: usize) -> usize
     requires ordered { Ordered words.now × (term < 1024) }
     requires room { Room (expressions_in words.now term) base number area.old }
@@ -191,7 +191,7 @@ fn write_child(words: &[usize], term: usize, area: &mut [u8], base: usize, numbe
 }
 
 // An expression whose root has this number, in the area whose terms begin at `base`; the number after its last term's.
-#[cycle(begin_condition_begin_expression_begin_list_write_child_write_condition_write_expression_write_list)]
+#[cycle(tree_writer)]
 pub fn write_expression(
     words: &[usize],
     from: usize,
@@ -218,7 +218,7 @@ pub fn write_expression(
 }
 
 // A condition, as an expression.
-#[cycle(begin_condition_begin_expression_begin_list_write_child_write_condition_write_expression_write_list)]
+#[cycle(tree_writer)]
 fn write_condition(
     words: &[usize],
     from: usize,
@@ -245,7 +245,7 @@ fn write_condition(
 }
 
 // The arguments of a call, as an expression.
-#[cycle(begin_condition_begin_expression_begin_list_write_child_write_condition_write_expression_write_list)]
+#[cycle(tree_writer)]
 fn write_list(words: &[usize], from: usize, area: &mut [u8], base: usize, first: usize) -> usize
     requires ordered { Ordered words.now × (from < 1024) }
     requires room { Room (lists_in words.now from) base first area.old }

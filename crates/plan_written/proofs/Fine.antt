@@ -13,7 +13,7 @@ use Rattle.plan_packed.specs.Format.{layout, laid_out, Term, term_at, tag_at}
 use Rattle.plan_packed.specs.Refusals.{wrong_operand, some_operand, breaks_table, wrong_term, misplaced, is_child, list_length, wrong_call}
 use Rattle.plan_packed.proofs.Children.{term_of}
 use Rattle.plan_written.specs.Terms.{TermTree, term, Part, value, child, size, size_of, value_at}
-use Rattle.plan_written.proofs.Heads.{Heads, Holds, length_of_lem, length_in, list_length_lem}
+use Rattle.plan_written.proofs.Heads.{Heads, Holds, length_of, length_in, list_length_lem}
 use Rattle.plan_written.proofs.RightTrees.{RightTree, RightPart, head_tag, call_value, call_child}
 use Rattle.plan_written.proofs.Placed.{Placed, PlacedPart}
 
@@ -121,7 +121,7 @@ module _ (b : List ℕ) where
     -- a call whose list is as long as the parameters
     counted : (p q r : Part) (k n : ℕ) → RightTree (procedures b) counts (term k p q r) → Heads b n (term k p q r) → k ≡ 8
         → list_length b (terms b) (term_at b n).value₂ ≡ parameters b (term_at b n).value₁
-    unfolding length_of_lem value_at
+    unfolding length_of value_at
     counted (value m) (child e) r k n h g d =
         list_length_lem b e (term_at b n).value₂ (terms b) g.3.2 (omega arith)
         ∙ h.4 d

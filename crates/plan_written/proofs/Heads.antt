@@ -33,18 +33,18 @@ list_child k d = rw d
 
 -- how long a list is: "counted in terms of tag 16, up to the first other tag"
 unfoldable mutual
-  pub length_of_lem : TermTree → ℕ
-  length_of_lem (term k p q r) = cond (eqb k 16) (suc (length_in q)) 0
+  pub length_of : TermTree → ℕ
+  length_of (term k p q r) = cond (eqb k 16) (suc (length_in q)) 0
 
   pub length_in : Part → ℕ
   length_in (value v) = 0
-  length_in (child e) = length_of_lem e
+  length_in (child e) = length_of e
 
 module _ (b : List ℕ) where
   mutual
-    unfolding length_of_lem
+    unfolding length_of
 
-    pub list_length_lem : (e : TermTree) (t n : ℕ) → Heads b t e → terms b ≤ t + n → list_length b n t ≡ length_of_lem e
+    pub list_length_lem : (e : TermTree) (t n : ℕ) → Heads b t e → terms b ≤ t + n → list_length b n t ≡ length_of e
     list_length_lem (term k p q r) t zero h f = let s = h.0 in absurd (omega arith)
     list_length_lem (term k p q r) t (suc n) h f = go (ℕ_discrete k 16) (λ d. list_part q t n k h.3 f d)
       where

@@ -5,7 +5,7 @@ use mathlib.Core.Path.{◌≡◌, sym, ap, subst, ◌∙◌}
 use mathlib.Core.List.{List}
 use mathlib.Core.Option.{none}
 use lib.ListN.{length}
-use Rattle.plan_packed.specs.Trees.{program_of_lem}
+use Rattle.plan_packed.specs.Trees.{program_of}
 use Rattle.plan_packed.specs.Check.{refusal}
 use Rattle.plan_written.specs.Alike.{Alike}
 use Rattle.plan_written.specs.Written.{written, written_plan}
@@ -23,7 +23,7 @@ module _ (b : List ℕ) (h : refusal b ≡ none) where
   alike = written_alike b h
 
   -- so it gives the same program
-  pub same_program : program_of_lem (written_plan b) ≡ program_of_lem b
+  pub same_program : program_of (written_plan b) ≡ program_of b
   same_program = alike_program (written_plan b) b alike
 
   -- its length is the original's

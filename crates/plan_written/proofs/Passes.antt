@@ -13,14 +13,14 @@ use Rattle.format.specs.Version.{v0, v1, version_of}
 use Rattle.plan_packed.specs.Syntax.{Expression, Procedure, Program}
 use Rattle.plan_packed.specs.Format
 use Rattle.plan_packed.specs.Format.{version, terms, parameters, root}
-use Rattle.plan_packed.specs.Trees.{tree_at, procedure_at, procedures_from, program_of_lem}
+use Rattle.plan_packed.specs.Trees.{tree_at, procedure_at, procedures_from, program_of}
 use Rattle.plan_packed.specs.Check.{refusal}
 use Rattle.plan_packed.proofs.Accepted.{Accepted, accepted}
 use Rattle.plan_packed.proofs.Decoded.{procedures_are}
 use Rattle.plan_written.specs.Alike.{Alike}
 use Rattle.plan_written.specs.Written.{version_number, written}
 use Rattle.plan_written.proofs.ReadBack.{Fitted, version_is, procedures_is, terms_is, volatiles_is, length_is}
-use Rattle.plan_written.proofs.RightWritten.{program_of, fitted, procedure_is, right_passes}
+use Rattle.plan_written.proofs.RightWritten.{program_of_lem, fitted, procedure_is, right_passes}
 use Rattle.plan_written.proofs.RightPlans.{right_program}
 pub use Rattle.plan_written.proofs.RightWritten.{plan_length_lem}
 pub use Rattle.plan_written.proofs.RightPlans.{count_is, total_is, mask_is}
@@ -48,10 +48,10 @@ module _ (b b' : List ℕ) where
       ap₂ (λ (d : Procedure) (ds : List Procedure). d ∷ ds) (procedures_alike p (a.same_parameters p (omega arith)) (a.same_trees p (omega arith)))
       (from_alike a (suc p) n (omega arith))
 
-  pub alike_program : Alike b b' → program_of_lem b ≡ program_of_lem b'
-  unfolding program_of_lem
+  pub alike_program : Alike b b' → program_of b ≡ program_of b'
+  unfolding program_of
   alike_program a =
-      program_of b (program_of_lem b') (ap version_of a.same_version) a.same_mask
+      program_of_lem b (program_of b') (ap version_of a.same_version) a.same_mask
       (from_alike a 0 (Format.procedures b) (omega arith) ∙ ap (procedures_from b' 0) a.same_procedures)
 
   -- either way round
@@ -80,7 +80,7 @@ module _ (b b' : List ℕ) where
 
 module _ (b : List ℕ) (h : refusal b ≡ none) where
   abbrev g : Program
-  g = program_of_lem b
+  g = program_of b
 
   abbrev w : List ℕ
   w = written g
@@ -97,7 +97,7 @@ module _ (b : List ℕ) (h : refusal b ≡ none) where
   parameters_are p = refl
 
   pub version_of_lem : g.version ≡ version_of (version b)
-  unfolding program_of_lem
+  unfolding program_of
   version_of_lem = refl
 
   fits : Fitted g
@@ -123,9 +123,9 @@ module _ (b : List ℕ) (h : refusal b ≡ none) where
   written_length = length_is g fits ∙ omega (arith, plan_length_lem w, plan_length_lem b, procedures_same, terms_same) ∙ sym facts.length_right
 
 -- and it is the same but for its term numbers
-pub written_alike : (b : List ℕ) → refusal b ≡ none → Alike (written (program_of_lem b)) b
+pub written_alike : (b : List ℕ) → refusal b ≡ none → Alike (written (program_of b)) b
 written_alike b h =
-    let g = program_of_lem b in
+    let g = program_of b in
     let w = written g in
     let h' = written_passes b h in
     record {

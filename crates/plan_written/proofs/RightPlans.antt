@@ -14,7 +14,7 @@ use Rattle.plan_packed.specs.Syntax.{Expression, Condition, Arguments, Procedure
 use Rattle.plan_packed.specs.Format.{procedures, terms, parameters, root, volatiles, mask_bit, fields_from, expression, condition, list, table, layout, term_at}
 use Rattle.plan_packed.specs.Format.{tag_at}
 use Rattle.plan_packed.specs.Trees.{nodes, node_at, binder_of, expression_of, condition_of, arguments_of, expression_at, condition_at, arguments_at, tree_at}
-use Rattle.plan_packed.specs.Trees.{procedures_from, program_of_lem}
+use Rattle.plan_packed.specs.Trees.{procedures_from, program_of}
 use Rattle.plan_packed.specs.Refusals.{list_length}
 use Rattle.plan_packed.specs.Check.{refusal}
 use Rattle.plan_packed.proofs.WellFormed.{count}
@@ -214,14 +214,14 @@ module _ (b : List ℕ) (h : refusal b ≡ none) where
   from_length p zero = refl
   from_length p (suc n) = ap suc (from_length (suc p) n)
 
-  pub count_is : length (program_of_lem b).procedures ≡ procedures b
+  pub count_is : length (program_of b).procedures ≡ procedures b
   count_is = ap length (program_procedures b) ∙ from_length 0 (procedures b)
 
-  pub total_is : size_of_all (program_of_lem b).procedures ≡ terms b
+  pub total_is : size_of_all (program_of b).procedures ≡ terms b
   total_is = all_terms b (passes-all b h).six (its_trees b (accepted b h))
 
-  pub mask_is : (program_of_lem b).volatiles ≡ volatiles b
-  unfolding program_of_lem
+  pub mask_is : (program_of b).volatiles ≡ volatiles b
+  unfolding program_of
   mask_is = refl
 
   abbrev ds : List Procedure
@@ -235,7 +235,7 @@ module _ (b : List ℕ) (h : refusal b ≡ none) where
   volatiles_small = bits_below b 32 32
 
   -- the program of an accepted plan is one that a plan can have
-  pub right_program : RightProgram (program_of_lem b)
+  pub right_program : RightProgram (program_of b)
   right_program =
       let a = accepted b h in
       let n = count_is in

@@ -19,7 +19,7 @@ use Rattle.plan_packed.proofs.Children.{node_of_tag}
 use Rattle.plan_packed.proofs.Decoded.{node_is}
 use Rattle.plan_written.specs.Terms.{value, mask_of, slot_of, terms_of, terms_ofᶜ, terms_ofᵃ, value_at}
 use Rattle.plan_written.proofs.Masks.{mask_from_lem}
-use Rattle.plan_written.proofs.Heads.{Heads, length_of_lem}
+use Rattle.plan_written.proofs.Heads.{Heads, length_of}
 use Rattle.plan_written.proofs.RightTrees.{head_tag, RightTree, RightPart}
 use Rattle.plan_written.proofs.Right.{Ascending, RightFields, RightSlot, RightField, Right, Rightᶜ, Rightᵃ}
 
@@ -89,8 +89,8 @@ list_sorted Arguments.end = refl
 list_sorted (Arguments.argument e es) = refl
 
 -- a call's list has as many terms as it has arguments
-list_counts : (es : Arguments) → length_of_lem (terms_ofᵃ es) ≡ count es
-unfolding terms_of length_of_lem
+list_counts : (es : Arguments) → length_of (terms_ofᵃ es) ≡ count es
+unfolding terms_of length_of
 list_counts Arguments.end = refl
 list_counts (Arguments.argument e es) = ap suc (list_counts es)
 
@@ -111,7 +111,7 @@ module _ (counts : List ℕ) where
   field_there f r = (refl, r.1, λ n t. ne_eqb f 0 (let h = r.0 in omega arith))
 
   mutual
-    unfolding terms_of layout table length_of_lem value_at
+    unfolding terms_of layout table length_of value_at
 
     pub right_terms : (e : Expression) → Right counts e → RightTree N C (terms_of e)
     right_terms (Expression.literal o) r = (omega arith, none_there, none_there, none_there, λ z. absurd (omega arith))

@@ -16,7 +16,7 @@ use Rattle.plan_packed.specs.Syntax.{Expression, Procedure, Program}
 use Rattle.plan_packed.specs.Format
 use Rattle.plan_packed.specs.Format.{mask_bit, fields_from, version, terms, volatiles, parameters, root, plan_length, Operand, expression, Term, term_at, tag_at}
 use Rattle.plan_packed.specs.Slots.{closed}
-use Rattle.plan_packed.specs.Trees.{tree_at, procedure_at, procedures_from, program_of_lem}
+use Rattle.plan_packed.specs.Trees.{tree_at, procedure_at, procedures_from, program_of}
 use Rattle.plan_packed.specs.Refusals.{any_below, sum_below, one_if, wrong_length, wrong_header, wrong_procedure, misplaced, some_operand, wrong_call, wrongly_sorted}
 use Rattle.plan_packed.specs.Refusals.{times_in, times_named, not_named_once, uses_unbound_slot}
 use Rattle.plan_packed.specs.Check.{checks, refusal}
@@ -172,10 +172,10 @@ from_is b (d ∷ ds) p h =
     (from_is b ds (suc p) (λ i d' e. let y : suc p + i ≡ p + suc i = omega arith in rw y (h (suc i) d' e)))
 
 -- a plan's program, part by part
-pub program_of : (b : List ℕ) (g : Program) → version_of (version b) ≡ g.version → volatiles b ≡ g.volatiles
-    → procedures_from b 0 (Format.procedures b) ≡ g.procedures → program_of_lem b ≡ g
-unfolding program_of_lem
-program_of b g e f k = λ i. record { version = e i; volatiles = f i; procedures = k i }
+pub program_of_lem : (b : List ℕ) (g : Program) → version_of (version b) ≡ g.version → volatiles b ≡ g.volatiles
+    → procedures_from b 0 (Format.procedures b) ≡ g.procedures → program_of b ≡ g
+unfolding program_of
+program_of_lem b g e f k = λ i. record { version = e i; volatiles = f i; procedures = k i }
 
 -- ---- the mask
 
@@ -328,7 +328,7 @@ module _ (g : Program) (r : RightProgram g) where
   right_passes = passed w all
 
   -- and are a plan of it
-  pub program_is : program_of_lem w ≡ g
+  pub program_is : program_of w ≡ g
   program_is =
-      program_of w g (ap version_of (version_is g fitted) ∙ version_again g.version) (volatiles_is g fitted)
+      program_of_lem w g (ap version_of (version_is g fitted) ∙ version_again g.version) (volatiles_is g fitted)
       (ap (procedures_from w 0) (procedures_is g fitted) ∙ from_is w ds 0 (λ i d e. let z : 0 + i ≡ i = omega arith in rw z (procedure_is i d e)))

@@ -10,7 +10,7 @@ use mathlib.Core.List.{List}
 use mathlib.Core.Logic.{inl, inr}
 use lib.Dec.{eqb}
 use Rattle.plan_packed.specs.Format.{procedures, terms, root, Operand, expression, condition, list, layout, laid_out, Term, term_at, tag_at}
-use Rattle.plan_packed.specs.Trees.{tree_at, procedure_at, procedures_from, program_of_lem}
+use Rattle.plan_packed.specs.Trees.{tree_at, procedure_at, procedures_from, program_of}
 use Rattle.plan_packed.specs.Refusals.{sum_below, one_if, is_child, times_in, times_named}
 use Rattle.plan_packed.proofs.Accepted.{OfSort, Readable}
 use Rattle.plan_packed.proofs.Passing.{SixRight}
@@ -84,8 +84,8 @@ module _ (b : List ℕ) where
   unfolding size_of_all procedures_from
   size_more p n = refl
 
-  pub program_procedures : (program_of_lem b).procedures ≡ procedures_from b 0 (procedures b)
-  unfolding program_of_lem
+  pub program_procedures : (program_of b).procedures ≡ procedures_from b 0 (procedures b)
+  unfolding program_of
   program_procedures = refl
 
 module _ (b : List ℕ) (six : SixRight b) (a : Readable b) where
@@ -150,7 +150,7 @@ module _ (b : List ℕ) (six : SixRight b) (a : Readable b) where
       tree_size b (terms_of (tree_at b (root b p))) (root b p) (terms b) (root_heads b a p (omega arith)) (omega arith) in
       rw e (omega (arith, from_roots (suc p) n (omega arith), size_more b p n, sum_more p (λ i. s (root b i))))
 
-  pub all_terms : size_of_all (program_of_lem b).procedures ≡ terms b
+  pub all_terms : size_of_all (program_of b).procedures ≡ terms b
   all_terms =
       let e : 0 + procedures b ≡ procedures b = omega arith in
       let f = rw e at (from_roots 0 (procedures b) (omega arith)) in

@@ -2,7 +2,7 @@
 use Rattle.std.specs.Prelude.{ℕ, zero, suc, ◌+◌, ◌*◌, ◌/◌, ◌%◌, ◌^◌, List, [], ◌∷◌, ◌++◌, length}
 use Rattle.format.specs.Version.{Version, v0, v1}
 use Rattle.plan_packed.specs.Syntax.{Procedure, Program}
-use Rattle.plan_packed.specs.Trees.{program_of_lem}
+use Rattle.plan_packed.specs.Trees.{program_of}
 use Rattle.plan_written.specs.Terms.{terms_of, size, words_from}
 
 -- a number in n bytes: "most significant bit first"
@@ -55,5 +55,5 @@ written g = bytes_of 4 (header_of g) ++ bytes_of 4 g.volatiles ++ procedure_byte
 
 -- an accepted plan, written in the one way
 unfoldable pub written_plan : List ℕ → List ℕ
-unfolding program_of_lem written
-written_plan b = written (program_of_lem b)
+unfolding program_of written
+written_plan b = written (program_of b)

@@ -1,124 +1,144 @@
 // What the program plancheck does: finds the word among its arguments, reads the files, calls, writes.
 #![tactic(auto)]
+
 mod files; // files.rt: files and schedules
 mod names; // names.rt: the words, and the uses
 
-use libc::STDOUT_FILENO;
 use names::Found;
 use plancheck_words::Word;
+use std::io;
+use std::rt::{Env, Files};
 use text_inputs::numerals;
 use text_log_words::LogWord;
 
 // A word about a plan and a schedule, as they are given.
-fn print_answer(word: Word, plan: &[u8], schedule: &[u8]) {
-    let mut picks = io::large_buffer();
+fn print_answer(rt: &impl Print, word: Word, plan: &[u8], schedule: &[u8]) -> io::Result<()> {
+    let mut picks = files::schedule_area();
     let count = files::put_picks(&mut picks, schedule);
     let mut area = files::text_area();
     let length = plancheck_words::answer(word, plan, &picks[..count], &mut area);
-    io::write_all(STDOUT_FILENO, &area[..length]);
+    rt.write_all(&area[..length])
 }
 
 // The schedule is the argument itself where it is digits alone or empty, and else in a file.
-fn with_schedule(word: Word, plan: &[u8], argument: &[u8]) {
+fn with_schedule<R: Files + Input + Print + Eprint + Alloc>(
+    rt: &R,
+    word: Word,
+    plan: &[u8],
+    argument: &[u8],
+) -> io::Result<()> {
     if (argument.len() == 0) | numerals::is_numeral(argument) {
-        print_answer(word, plan, argument);
-        return;
+        return print_answer(rt, word, plan, argument);
     }
-    let file = files::open_input(argument);
-    if file < 0 {
-        return;
+    let mut bytes = files::schedule_area();
+    match files::read_whole(rt, argument, &mut bytes)? {
+        None => Ok(()),
+        Some(size) => print_answer(rt, word, plan, &bytes[..size]),
     }
-    let mut bytes = io::large_buffer();
-    let size = io::read_full(file, &mut bytes);
-    libc::close(file);
-    if size == 65536 {
-        files::say_too_long(argument);
-        return;
-    }
-    print_answer(word, plan, &bytes[..size]);
 }
 
 // The plan is in a file.
-fn with_plan(word: Word, name: &[u8], schedule: &[u8]) {
-    let file = files::open_input(name);
-    if file < 0 {
-        return;
-    }
+fn with_plan<R: Files + Input + Print + Eprint + Alloc>(
+    rt: &R,
+    word: Word,
+    name: &[u8],
+    schedule: &[u8],
+) -> io::Result<()> {
     let mut plan = files::plan_area();
-    let size = io::read_full(file, &mut plan);
-    libc::close(file);
-    if size == 600000 {
-        files::say_too_long(name);
-        return;
+    match files::read_whole(rt, name, &mut plan)? {
+        None => Ok(()),
+        Some(size) => with_schedule(rt, word, &plan[..size], files::behind(name, schedule)),
     }
-    with_schedule(word, &plan[..size], schedule);
 }
 
 // A word about a log.
-fn print_log(word: LogWord, log: &[u8]) {
+fn print_log(rt: &impl Print, word: LogWord, log: &[u8]) -> io::Result<()> {
     let mut area = files::picture_area();
     let length = text_log_words::answer(word, log, &mut area);
-    io::write_all(STDOUT_FILENO, &area[..length]);
+    rt.write_all(&area[..length])
 }
 
 // The log is in a file, of which the first 12,289 bytes decide the answer.
-fn with_log(word: LogWord, name: &[u8]) {
-    let file = files::open_input(name);
-    if file < 0 {
-        return;
-    }
+fn with_log<R: Files + Input + Print + Eprint + Alloc>(
+    rt: &R,
+    word: LogWord,
+    name: &[u8],
+) -> io::Result<()> {
     let mut log = comtrade_files::log_area();
-    let size = io::read_full(file, &mut log);
-    libc::close(file);
-    print_log(word, &log[..size]);
+    match files::read_input(rt, name, &mut log)? {
+        None => Ok(()),
+        Some(size) => print_log(rt, word, &log[..size]),
+    }
 }
 
 // The same for the log's data file and configuration file, which get these names.
-fn with_names(name: &[u8], data: &[u8], configuration: &[u8]) {
-    let file = files::open_input(name);
-    if file < 0 {
-        return;
-    }
+fn with_names<R: Files + Input + Print + Eprint + Alloc>(
+    rt: &R,
+    name: &[u8],
+    data: &[u8],
+    configuration: &[u8],
+) -> io::Result<()> {
     let mut log = comtrade_files::log_area();
-    let size = io::read_full(file, &mut log);
-    libc::close(file);
-    comtrade_files::write_log(&log[..size], data, configuration);
+    match files::read_input(rt, name, &mut log)? {
+        None => Ok(()),
+        Some(size) => comtrade_files::write_log(rt, &log[..size], data, configuration),
+    }
 }
 
 // A word with its arguments, in a command of so many words, the program's own name among them.
-pub fn obey(count: usize, word: &[u8], first: &[u8], second: &[u8], third: &[u8]) {
+pub fn obey<R: Files + Input + Print + Eprint + Alloc>(
+    rt: &R,
+    count: usize,
+    word: &[u8],
+    first: &[u8],
+    second: &[u8],
+    third: &[u8],
+) -> io::Result<()> {
     match names::find(count, word, second, third) {
-        Found::Plan(known) => with_plan(known, first, second),
-        Found::Log(known) => with_log(known, first),
-        Found::Files => with_names(first, second, third),
-        Found::Nothing => names::print_uses(),
+        Found::Plan(known) => with_plan(rt, known, first, second),
+        Found::Log(known) => with_log(rt, known, first),
+        Found::Files => with_names(rt, first, second, third),
+        Found::Nothing => names::print_uses(rt),
     }
 }
 
 // The third argument of the word.
-fn with_second(word: &[u8], first: &[u8], second: &[u8]) {
-    let mut third = io::buffer();
-    let length = os::arg(4, &mut third);
-    obey(os::arg_count(), word, first, second, &third[..length]);
+fn with_second<R: Env + Files + Input + Print + Eprint + Alloc>(
+    rt: &R,
+    word: &[u8],
+    first: &[u8],
+    second: &[u8],
+) -> io::Result<()> {
+    let mut third = program_files::argument_area();
+    let length = program_files::argument(rt, 4, &mut third);
+    let count = program_files::argument_count(rt);
+    obey(rt, count, word, first, second, &third[..length])
 }
 
 // The second.
-fn with_first(word: &[u8], first: &[u8]) {
-    let mut second = io::buffer();
-    let length = os::arg(3, &mut second);
-    with_second(word, first, &second[..length]);
+fn with_first<R: Env + Files + Input + Print + Eprint + Alloc>(
+    rt: &R,
+    word: &[u8],
+    first: &[u8],
+) -> io::Result<()> {
+    let mut second = program_files::argument_area();
+    let length = program_files::argument(rt, 3, &mut second);
+    with_second(rt, word, first, &second[..length])
 }
 
 // The first.
-fn with_word(word: &[u8]) {
-    let mut first = io::buffer();
-    let length = os::arg(2, &mut first);
-    with_first(word, &first[..length]);
+fn with_word<R: Env + Files + Input + Print + Eprint + Alloc>(
+    rt: &R,
+    word: &[u8],
+) -> io::Result<()> {
+    let mut first = program_files::argument_area();
+    let length = program_files::argument(rt, 2, &mut first);
+    with_first(rt, word, &first[..length])
 }
 
 // The whole program.
-pub fn run() {
-    let mut word = io::buffer();
-    let length = os::arg(1, &mut word);
-    with_word(&word[..length]);
+pub fn run<R: Env + Files + Input + Print + Eprint + Alloc>(rt: &R) -> io::Result<()> {
+    let mut word = program_files::argument_area();
+    let length = program_files::argument(rt, 1, &mut word);
+    with_word(rt, &word[..length])
 }

@@ -1,11 +1,11 @@
 // The words of the program, and its uses.
-use libc::STDOUT_FILENO;
 use plancheck_words::Word;
+use std::io;
 use text_inputs::numerals;
 use text_log_words::LogWord;
 
 // A word about a plan or about a log, the one that writes two files, or none.
-#[derive(Drop)]
+#[derive(Clone, Copy)]
 pub enum Found {
     Plan(Word),
     Log(LogWord),
@@ -15,69 +15,49 @@ pub enum Found {
 
 // A word that asks for a plan alone.
 fn of_plan(word: &[u8]) -> Found {
-    if check::same(word, b"check") {
-        return Found::Plan(Word::Check);
+    match word {
+        b"check" => Found::Plan(Word::Check),
+        b"show" => Found::Plan(Word::Show),
+        b"read" => Found::Plan(Word::Read),
+        b"canonical" => Found::Plan(Word::Canonical),
+        b"bound" => Found::Plan(Word::Bound),
+        _ => Found::Nothing,
     }
-    if check::same(word, b"show") {
-        return Found::Plan(Word::Show);
-    }
-    if check::same(word, b"read") {
-        return Found::Plan(Word::Read);
-    }
-    if check::same(word, b"canonical") {
-        return Found::Plan(Word::Canonical);
-    }
-    if check::same(word, b"bound") {
-        return Found::Plan(Word::Bound);
-    }
-    Found::Nothing
 }
 
 // A word that asks for a plan and a schedule.
 fn of_schedule(word: &[u8]) -> Found {
-    if check::same(word, b"play") {
-        return Found::Plan(Word::Play);
+    match word {
+        b"play" => Found::Plan(Word::Play),
+        b"states" => Found::Plan(Word::States),
+        b"log" => Found::Plan(Word::Log),
+        b"witness" => Found::Plan(Word::Witness),
+        b"charge" => Found::Plan(Word::Charge),
+        _ => Found::Nothing,
     }
-    if check::same(word, b"states") {
-        return Found::Plan(Word::States);
-    }
-    if check::same(word, b"log") {
-        return Found::Plan(Word::Log);
-    }
-    if check::same(word, b"witness") {
-        return Found::Plan(Word::Witness);
-    }
-    if check::same(word, b"charge") {
-        return Found::Plan(Word::Charge);
-    }
-    Found::Nothing
 }
 
 // A word that asks for a file and a number.
 fn of_number(word: &[u8], number: usize) -> Found {
-    if check::same(word, b"judge") {
-        return Found::Log(LogWord::Judge(number));
+    match word {
+        b"judge" => Found::Log(LogWord::Judge(number)),
+        b"diagram" => Found::Log(LogWord::Diagram(number)),
+        b"interleavings" => Found::Plan(Word::Interleavings(number)),
+        _ => of_schedule(word),
     }
-    if check::same(word, b"diagram") {
-        return Found::Log(LogWord::Diagram(number));
-    }
-    if check::same(word, b"interleavings") {
-        return Found::Plan(Word::Interleavings(number));
-    }
-    of_schedule(word)
 }
 
 // A word that asks for a plan, a schedule and a number.
 fn of_pick(word: &[u8], number: usize) -> Found {
-    if check::same(word, b"preview") {
-        return Found::Plan(Word::Preview(number));
+    match word {
+        b"preview" => Found::Plan(Word::Preview(number)),
+        _ => Found::Nothing,
     }
-    Found::Nothing
 }
 
 // A word with three arguments, of which the last may have to be a number.
 fn of_three(word: &[u8], third: &[u8]) -> Found {
-    if check::same(word, b"comtrade") {
+    if word == b"comtrade".as_slice() {
         return Found::Files;
     }
     if numerals::is_numeral(third) {
@@ -104,9 +84,8 @@ pub fn find(count: usize, word: &[u8], second: &[u8], third: &[u8]) -> Found {
 }
 
 // A line to each use.
-pub fn print_uses() {
-    io::write_all(
-        STDOUT_FILENO,
+pub fn print_uses(rt: &impl Print) -> io::Result<()> {
+    rt.write_all(
         b"plancheck read PLAN > PACKED\n\
 plancheck show PLAN\n\
 plancheck check PLAN\n\
@@ -125,5 +104,5 @@ plancheck interleavings PLAN PICKS\n\
 A file is its path, or - for standard input. A PLAN is text or packed bytes;\n\
 a SCHEDULE is a file of digits or packed picks, or its digits, as in 0000010.\n\
 VERSION is the plan's, 0 or 1; PICKS is how many an interleaving has at most.\n",
-    );
+    )
 }

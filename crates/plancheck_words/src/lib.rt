@@ -11,7 +11,7 @@ use text_inputs::plans;
 use text_run_words::told;
 
 // The words whose answer is a text about a plan, some with a number.
-#[derive(Drop)]
+#[derive(Clone, Copy)]
 pub enum Word {
     Check,
     Show,

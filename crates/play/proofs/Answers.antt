@@ -9,7 +9,7 @@ use lib.ListN.{length, get_or, take, length-take}
 use lib.Seq.{get_or-take}
 use Rattle.format.specs.Area.{overwrite}
 use Rattle.plan_packed.specs.Format.{version, procedures, terms, volatiles}
-use Rattle.plan_packed.specs.Trees.{program_of_lem}
+use Rattle.plan_packed.specs.Trees.{program_of}
 use Rattle.plan_packed.specs.Check.{refusal}
 use Rattle.log_records.specs.Record.{Record}
 use Rattle.log_records.specs.Packed.{bytes_of}
@@ -90,11 +90,11 @@ module _ (plan ws rs area : List ℕ) (passes : refusal plan ≡ none) (words : 
   code ps = play_of ws rs (setting_of plan) (start_of false rs area) ps 0
 
   module _ (ps : List ℕ) (small : (j : ℕ) → j < length ps → get_or ps j 0 ≤ 7) (wide : 3 * length ps ≤ length area) where
-    defined : (outcome_meant (code ps).outcome ≡ run.outcome_of (program_of_lem plan) (run.play (program_of_lem plan) ps))
-        × ((code ps).area ≡ overwrite (bytes_of (log (run.play (program_of_lem plan) ps))) area)
+    defined : (outcome_meant (code ps).outcome ≡ run.outcome_of (program_of plan) (run.play (program_of plan) ps))
+        × ((code ps).area ≡ overwrite (bytes_of (log (run.play (program_of plan) ps))) area)
     defined = plays_defined plan ws rs passes loaded ps area small wide
 
-    pub outcome_defined : outcome_of (code ps).outcome ≡ run.outcome_of (program_of_lem plan) (run_of plan ps)
+    pub outcome_defined : outcome_of (code ps).outcome ≡ run.outcome_of (program_of plan) (run_of plan ps)
     unfolding run_of
     outcome_defined = outcome_same _ ∙ defined.0
 

@@ -4,7 +4,7 @@ use mathlib.Core.Path.{◌≡◌, refl, sym, ap, ◌∙◌}
 use mathlib.Core.Bool.{true}
 use mathlib.Core.List.{List, [], ◌∷◌, ◌++◌, map, foldr}
 use mathlib.Core.Option.{Option, some, none}
-use Rattle.plan_packed.specs.Trees.{program_of_lem}
+use Rattle.plan_packed.specs.Trees.{program_of}
 use Rattle.plan_packed.specs.Check.{refusal}
 use Rattle.log_records.specs.Record.{Record}
 use Rattle.rules.specs.Run.{MadeMove, Run, logged}
@@ -32,7 +32,7 @@ records_moves r = go r.moves
     go (m ∷ ms) = one m.thread m.entry _ ∙ ap (λ (l : List Record). shown m.thread m.entry ∷ l) (go ms)
 
 module _ (b : List ℕ) (ok : refusal b ≡ none) (ps : List ℕ) where
-  pub records_are_moves : records_of true (playing.machine_run b ps) ≡ moves_of (program_of_lem b) ps
+  pub records_are_moves : records_of true (playing.machine_run b ps) ≡ moves_of (program_of b) ps
   unfolding moves_of
   records_are_moves = records_moves (playing.machine_run b ps) ∙ sym (ap (λ (r : Run). shown_moves r) (plays b ok ps))
 

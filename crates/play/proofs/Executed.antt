@@ -2,7 +2,7 @@
 use Prim.Native.Nat.{ℕ}
 use mathlib.Core.Path.{◌≡◌, sym, ◌∙◌, subst as along}
 use mathlib.Core.List.{List}
-use Rattle.plan_packed.specs.Trees.{program_of_lem}
+use Rattle.plan_packed.specs.Trees.{program_of}
 use Rattle.plan_refusals.specs.declared.Checked.TheVariants as checked
 use Rattle.plan_refusals.proofs.Stages.{passed_refused}
 use Rattle.rules.specs.Run as run
@@ -18,10 +18,10 @@ use Rattle.play.proofs.Ran.{ran_passed, ran_outcome, ran_area, ran_is}
 
 -- of every entry whose answer is `played`
 pub played_executed : (plan schedule area : List ℕ) (o : run.Outcome) → play.Played.ran o ≡ played plan schedule area
-    → Executed (program_of_lem plan) schedule o (log (run_of plan schedule))
+    → Executed (program_of plan) schedule o (log (run_of plan schedule))
 unfolding run_of
 played_executed plan schedule area o h =
-    along (λ (x : run.Outcome). Executed (program_of_lem plan) schedule x (log (run_of plan schedule))) (sym (ran_outcome plan schedule area o h))
+    along (λ (x : run.Outcome). Executed (program_of plan) schedule x (log (run_of plan schedule))) (sym (ran_outcome plan schedule area o h))
     (plan_executed plan (ran_passed plan schedule area o h).plan_passes schedule)
 
 -- of the entry `play`

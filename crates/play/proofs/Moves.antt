@@ -5,7 +5,7 @@ use mathlib.Core.Path.{◌≡◌, ap}
 use mathlib.Core.List.{List}
 use lib.ListN.{length}
 use Rattle.plan_packed.specs.Syntax.{Program}
-use Rattle.plan_packed.specs.Trees.{program_of_lem}
+use Rattle.plan_packed.specs.Trees.{program_of}
 use Rattle.plan_packed.proofs.Decoded.{well_formed}
 use Rattle.plan_refusals.specs.declared.Checked.TheVariants as checked
 use Rattle.rules.specs.State.{State}
@@ -36,4 +36,4 @@ module _ (plan schedule area : List ℕ) (p : Played) (h : answered p ≡ played
   unfolding run_of
   few_moves =
       let a = ran.passes plan schedule area p h e in
-      omega (arith, moves_are, a.few, (few (play_executes (program_of_lem plan) (well_formed plan a.plan_passes) schedule)).1)
+      omega (arith, moves_are, a.few, (few (play_executes (program_of plan) (well_formed plan a.plan_passes) schedule)).1)

@@ -10,7 +10,7 @@ use lib.ListN.{length, take}
 use Rattle.format.specs.Refusal.{Refusal}
 use Rattle.format.specs.Area.{overwrite}
 use Rattle.format.proofs.AreaLaws.{overwrite_first, overwrite_covers}
-use Rattle.plan_packed.specs.Trees.{program_of_lem}
+use Rattle.plan_packed.specs.Trees.{program_of}
 use Rattle.plan_packed.proofs.Decoded.{well_formed}
 use Rattle.plan_refusals.specs.declared.Checked.{Checked}
 use Rattle.plan_refusals.specs.declared.Checked.TheVariants as checked
@@ -45,7 +45,7 @@ module _ (plan schedule area : List ℕ) (o : run.Outcome) (h : play.Played.ran 
   pub ran_passed : Passed plan schedule area
   ran_passed = passed plan schedule area not_refused
 
-  pub ran_outcome : o ≡ run.outcome_of (program_of_lem plan) (run_of plan schedule)
+  pub ran_outcome : o ≡ run.outcome_of (program_of plan) (run_of plan schedule)
   unfolding played played_by
   ran_outcome = ap (outcome_or o) (h ∙ ap (played_by plan schedule) not_refused)
 
@@ -62,7 +62,7 @@ module _ (plan schedule area : List ℕ) (p : Played) (h : answered p ≡ played
   pub passes : Passed plan schedule area
   passes = ran_passed plan schedule area (outcome_of p.outcome) ran_is
 
-  pub outcome_is : outcome_of p.outcome ≡ run.outcome_of (program_of_lem plan) (run_of plan schedule)
+  pub outcome_is : outcome_of p.outcome ≡ run.outcome_of (program_of plan) (run_of plan schedule)
   outcome_is = ran_outcome plan schedule area (outcome_of p.outcome) ran_is
 
   pub stop_is : stop_of p.outcome.stop ≡ (run_of plan schedule).stop
@@ -76,7 +76,7 @@ module _ (plan schedule area : List ℕ) (p : Played) (h : answered p ≡ played
   -- as few as the picks
   pub few_records : p.outcome.records ≤ 4096
   unfolding run_of
-  few_records = omega (arith, records_are, passes.few, (tidy_play (program_of_lem plan) (well_formed plan passes.plan_passes) schedule).few)
+  few_records = omega (arith, records_are, passes.few, (tidy_play (program_of plan) (well_formed plan passes.plan_passes) schedule).few)
 
   -- ---- the log area that it leaves
 

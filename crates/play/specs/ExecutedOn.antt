@@ -1,6 +1,6 @@
 -- Demand 2 of the running code: what the entry `play` answers of a play that is not refused, and the log area that it leaves. Assumes nothing.
 use Rattle.std.specs.Prelude.{ℕ, ◌≡◌, List}
-use Rattle.plan_packed.specs.Trees.{program_of_lem}
+use Rattle.plan_packed.specs.Trees.{program_of}
 use Rattle.plan_refusals.specs.declared.Checked.TheVariants as checked
 use Rattle.log_records.specs.Record.{Record}
 use Rattle.log_records.specs.Packed.{bytes_of}
@@ -13,7 +13,7 @@ use Rattle.play.specs.Answer.{outcome_of}
 pub record ExecutedOn (plan schedule before after : List ℕ) (r : Played) : Type 0 where
   pub log : List Record
   -- "Each run moves as the write-key rules [..] say, [..]; outcome, thread states, counts and log are those of that run"
-  pub executed : Executed (program_of_lem plan) schedule (outcome_of r.outcome) log
+  pub executed : Executed (program_of plan) schedule (outcome_of r.outcome) log
   -- "After a run the log area begins with the records; its other bytes keep their values."
   pub area : after ≡ overwrite (bytes_of log) before
 

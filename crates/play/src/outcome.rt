@@ -6,7 +6,7 @@ use plan_refusals::Checked;
 use run_outcome::{Outcome, Stop, Thread, ThreadState};
 
 // What a play answers: what refused it, or that nothing did; then the run's outcome, or that of no run.
-#[derive(Drop)]
+#[derive(Clone, Copy)]
 pub struct Played {
     pub checked: Checked,
     pub outcome: Outcome,

@@ -10,7 +10,7 @@ use lib.ListN.{length, get_or, get_elem?, take, drop, length-append, take-append
 use lib.Seq.{get_or-take, take_at, get_or-append_seam}
 use Rattle.format.specs.Area.{overwrite}
 use Rattle.format.proofs.AreaLaws.{overwrite_first, overwrite_covers}
-use Rattle.plan_packed.specs.Trees.{program_of_lem}
+use Rattle.plan_packed.specs.Trees.{program_of}
 use Rattle.plan_packed.proofs.Decoded.{well_formed}
 use Rattle.log_records.specs.Record.{Record}
 use Rattle.log_records.specs.Packed.{packed, three_bytes, bytes_of, record_at}
@@ -68,9 +68,9 @@ no_room_lem (stop.NoRoom x) k e = (x, refl, cc)
 -- ---- the bytes of the last record
 
 -- the last of some records and one more
-last_of : (L : List Record) (e : Record) → get_elem? (L ++ (e ∷ [])) (length L) ≡ some e
-last_of [] e = refl
-last_of (x ∷ L) e = last_of L e
+last_of_lem : (L : List Record) (e : Record) → get_elem? (L ++ (e ∷ [])) (length L) ≡ some e
+last_of_lem [] e = refl
+last_of_lem (x ∷ L) e = last_of_lem L e
 
 module _ (L : List Record) (area after : List ℕ) (left : after ≡ overwrite (bytes_of L) area) where
   begins : take (length (bytes_of L)) after ≡ bytes_of L
@@ -105,13 +105,13 @@ module _ (L : List Record) (area after : List ℕ) (left : after ≡ overwrite (
 -- ---- the run of the schedule with the pick added
 
 -- what its last pick did
-abbrev last_of_lem : Ran → ℕ → ℕ → List ℕ → Previewed
-last_of_lem r = last_pick r.outcome r.before.moves r.before.records
+abbrev last_of : Ran → ℕ → ℕ → List ℕ → Previewed
+last_of r = last_pick r.outcome r.before.moves r.before.records
 
 -- what follows of it
 pub record Found (r : Ran) (schedule : List ℕ) (pick : ℕ) (after : List ℕ) (x : Preview) : Type 0 where
-  pub answer : answered (last_of_lem r (length schedule) pick after) ≡ preview.Previewed.shows x
-  pub as_logged : AsLogged (last_of_lem r (length schedule) pick after)
+  pub answer : answered (last_of r (length schedule) pick after) ≡ preview.Previewed.shows x
+  pub as_logged : AsLogged (last_of r (length schedule) pick after)
   pub raced_once : length schedule ≤ r.outcome.picks → r.outcome.stop ≡ stop.Race → 1 ≤ r.outcome.records
 
 -- the pick is one of eight threads
@@ -181,11 +181,11 @@ module _ (plan schedule : List ℕ) (pick : ℕ) (ws area : List ℕ) (given : G
       i_is = omega (arith, last_index)
 
       at : get_elem? (log longer) i ≡ some e
-      at = ap (λ (l : List Record). get_elem? l i) longer_log ∙ ap (get_elem? (log shorter ++ (e ∷ []))) i_is ∙ last_of (log shorter) e
+      at = ap (λ (l : List Record). get_elem? l i) longer_log ∙ ap (get_elem? (log shorter ++ (e ∷ []))) i_is ∙ last_of_lem (log shorter) e
 
       tidy : Tidy e
       unfolding run_of
-      tidy = tidy_at (log longer) (tidy_play (program_of_lem plan) (well_formed plan given.plan_passes) (with_pick schedule pick)).all_tidy i e at
+      tidy = tidy_at (log longer) (tidy_play (program_of plan) (well_formed plan given.plan_passes) (with_pick schedule pick)).all_tidy i e at
 
       below : i < length (log longer)
       below = omega (arith, last_index, ap (λ (l : List Record). length l) longer_log, length-append (log shorter) (e ∷ []))
@@ -199,11 +199,11 @@ module _ (plan schedule : List ℕ) (pick : ℕ) (ws area : List ℕ) (given : G
   -- the schedule dealt with every pick of its own
   all_dealt : shorter.stop ≡ run.Stop.end → shorter.picks ≡ n
   unfolding run_of play
-  all_dealt h = all_dealt_with (program_of_lem plan) start schedule h
+  all_dealt h = all_dealt_with (program_of plan) start schedule h
 
   short : (shorter.stop ≡ run.Stop.end → ⊥) → shorter.picks < n
   unfolding run_of play
-  short h = stopped_short (program_of_lem plan) start schedule h
+  short h = stopped_short (program_of plan) start schedule h
 
   -- where it did not stop, the rule instances and the log go on in those of a run from where it stands
   more_instances : (u : Run) → length (instances (and_then shorter u)) ≡ length (instances shorter) + length (instances u)
@@ -211,14 +211,14 @@ module _ (plan schedule : List ℕ) (pick : ℕ) (ws area : List ℕ) (given : G
 
   more_log : (u : Run) → shorter.stop ≡ run.Stop.end → log (and_then shorter u) ≡ log shorter ++ log u
   unfolding run_of play
-  more_log u h = log_append shorter u (none_lacked (program_of_lem plan) start schedule h)
+  more_log u h = log_append shorter u (none_lacked (program_of plan) start schedule h)
 
   -- the run of one pick, with these moves
   abbrev next : List MadeMove → State → Run
   next ms s = record { stop = run.Stop.end; picks = 1; moves = ms; lacked = none; final = s }
 
   -- by what the code finds
-  found_as : (y : Previewed) (x : Preview) → last_of_lem r n pick after ≡ y → answered y ≡ preview.Previewed.shows x → AsLogged y
+  found_as : (y : Previewed) (x : Preview) → last_of r n pick after ≡ y → answered y ≡ preview.Previewed.shows x → AsLogged y
       → (n ≤ r.outcome.picks → r.outcome.stop ≡ stop.Race → 1 ≤ r.outcome.records) → Found r schedule pick after x
   found_as y x e a l o = record { answer = ap answered e ∙ a; as_logged = along AsLogged (sym e) l; raced_once = o }
 
@@ -233,7 +233,7 @@ module _ (plan schedule : List ℕ) (pick : ℕ) (ws area : List ℕ) (given : G
   one_more_lem : shorter.stop ≡ run.Stop.end → shorter.picks + 1 ≡ n + 1
   one_more_lem h = omega (arith, all_dealt h)
 
-  pub found : (x : Preview) (t : Run) → t ≡ longer → PlaysAs (program_of_lem plan) pick shorter x t → Found r schedule pick after x
+  pub found : (x : Preview) (t : Run) → t ≡ longer → PlaysAs (program_of plan) pick shorter x t → Found r schedule pick after x
   unfolding answered instances log stopped
   found x t same (STOPPED h) =
       let few : r.outcome.picks < n = omega (arith, short h, picks_are _ same) in
@@ -244,9 +244,9 @@ module _ (plan schedule : List ℕ) (pick : ℕ) (ws area : List ℕ) (given : G
       let None-more = more_instances (next [] shorter.final) in
       let m : r.outcome.moves ≡ r.before.moves = omega (arith, None-more, moves_are _ same, moves_before _ same (one_more_lem h)) in
       let y : status_of (get_or r.outcome.threads pick absent).state ≡ status a =
-      status_of_lem (program_of_lem plan) longer r.outcome ran.outcome pick small
-      ∙ ap (λ (z : State). status (attempt (program_of_lem plan) z pick)) (ap (λ (u : Run). u.final) (sym same))
-      ∙ ap status (complete_passed (program_of_lem plan) shorter.final pick p) in
+      status_of_lem (program_of plan) longer r.outcome ran.outcome pick small
+      ∙ ap (λ (z : State). status (attempt (program_of plan) z pick)) (ap (λ (u : Run). u.final) (sym same))
+      ∙ ap status (complete_passed (program_of plan) shorter.final pick p) in
       found_as _ _ (passed r.outcome r.before.moves r.before.records n pick after (omega (arith, picks_are _ same, one_more_lem h)) e m)
       (ap (λ (z : Status). preview.Previewed.shows (Preview.passed z)) y) tt (ended_once e)
   found x t same (MOVED {R} {e = none} {s'} h m k) =
@@ -280,19 +280,19 @@ module _ (plan schedule : List ℕ) (pick : ℕ) (ws area : List ℕ) (given : G
       (ap (λ (z : Room). preview.Previewed.shows (Preview.no_room z)) w.2) tt (full_once w.0 w.1)
 
   -- what the code answers
-  pub shown_found : Found r schedule pick after (shown_after (program_of_lem plan) shorter pick)
+  pub shown_found : Found r schedule pick after (shown_after (program_of plan) shorter pick)
   unfolding run_of
-  shown_found = found _ longer refl (preview_plays (program_of_lem plan) (well_formed plan given.plan_passes) schedule pick)
+  shown_found = found _ longer refl (preview_plays (program_of plan) (well_formed plan given.plan_passes) schedule pick)
 
   -- and what it asks for
   before_fewer : r.before.records ≤ r.outcome.records
   unfolding run_of play
   before_fewer =
       let k : ℕ = min r.outcome.picks (length (with_pick schedule pick) - 1) in
-      let h : length (log (play (program_of_lem plan) (take k (with_pick schedule pick)))) ≤ length (log (play (program_of_lem plan) (with_pick schedule pick))) =
-      along (λ (ps : List ℕ). length (log (play (program_of_lem plan) (take k (with_pick schedule pick)))) ≤ length (log (play (program_of_lem plan) ps)))
+      let h : length (log (play (program_of plan) (take k (with_pick schedule pick)))) ≤ length (log (play (program_of plan) (with_pick schedule pick))) =
+      along (λ (ps : List ℕ). length (log (play (program_of plan) (take k (with_pick schedule pick)))) ≤ length (log (play (program_of plan) ps)))
       (take-append-drop k (with_pick schedule pick))
-      (records_grow (program_of_lem plan) start (take k (with_pick schedule pick)) (drop k (with_pick schedule pick))) in
+      (records_grow (program_of plan) start (take k (with_pick schedule pick)) (drop k (with_pick schedule pick))) in
       omega (arith, h, ran.records_before, records_are longer refl)
 
   pub last_given : LastGiven r.outcome r.before.records n pick after

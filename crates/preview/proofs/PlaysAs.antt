@@ -7,7 +7,7 @@ use mathlib.Core.List.{List, [], ◌∷◌, append-nil}
 use mathlib.Core.Option.{Option, some, none}
 use Rattle.format.specs.Refusal.{Refusal}
 use Rattle.plan_packed.specs.Syntax.{Program}
-use Rattle.plan_packed.specs.Trees.{program_of_lem}
+use Rattle.plan_packed.specs.Trees.{program_of}
 use Rattle.plan_packed.proofs.WellFormed.{WellFormedProgram}
 use Rattle.plan_packed.proofs.Decoded.{well_formed}
 use Rattle.log_records.specs.Record.{Record}
@@ -133,7 +133,7 @@ module _ (plan schedule : List ℕ) (pick : ℕ) (x : Preview) (h : previewed pl
   unfolding preview_refusal
   shown_scheduled = scheduled plan (with_pick schedule pick) (not_refused_by (preview_refusal plan schedule pick) refl)
 
-  pub shown_is : x ≡ shown_after (program_of_lem plan) (run_of plan schedule) pick
+  pub shown_is : x ≡ shown_after (program_of plan) (run_of plan schedule) pick
   unfolding previewed previewed_by
   shown_is = shows_is (sym h ∙ ap (previewed_by plan schedule pick) (not_refused_by (preview_refusal plan schedule pick) refl))
 
@@ -141,6 +141,6 @@ module _ (plan schedule : List ℕ) (pick : ℕ) (x : Preview) (h : previewed pl
 pub previewed_plays : (plan schedule : List ℕ) (pick : ℕ) → PlaysIfShown plan schedule pick (previewed plan schedule pick)
 unfolding run_of
 previewed_plays plan schedule pick x h =
-    let g = program_of_lem plan in
+    let g = program_of plan in
     along (λ (y : Preview). PlaysAs g pick (play g schedule) y (play g (with_pick schedule pick))) (sym (shown_is plan schedule pick x h))
     (preview_plays g (well_formed plan (shown_scheduled plan schedule pick x h).plan_passes) schedule pick)

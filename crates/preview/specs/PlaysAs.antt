@@ -3,7 +3,7 @@
 use Rattle.std.specs.Prelude.{ℕ, ◌+◌, ◌≡◌, List, [], ◌∷◌, ◌++◌}
 use Rattle.std.proofs.Math.Option.{Option, some, none}
 use Rattle.plan_packed.specs.Syntax.{Program}
-use Rattle.plan_packed.specs.Trees.{program_of_lem}
+use Rattle.plan_packed.specs.Trees.{program_of}
 use Rattle.log_records.specs.Record.{Record}
 use Rattle.rules.specs.State.{State}
 use Rattle.rules.specs.Rules.{Rule, Moves, Lacks}
@@ -46,4 +46,4 @@ module _ (g : Program) (p : ℕ) (r : Run) where
 -- of the answer to a preview, where it is not refused
 abbrev pub PlaysIfShown : (plan schedule : List ℕ) → ℕ → Previewed → Type 0
 PlaysIfShown plan schedule pick a =
-    (x : Preview) → a ≡ Previewed.shows x → PlaysAs (program_of_lem plan) pick (run_of plan schedule) x (run_of plan (with_pick schedule pick))
+    (x : Preview) → a ≡ Previewed.shows x → PlaysAs (program_of plan) pick (run_of plan schedule) x (run_of plan (with_pick schedule pick))

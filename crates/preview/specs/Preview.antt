@@ -3,7 +3,7 @@ use Rattle.std.specs.Prelude.{ℕ, List, [], ◌∷◌, ◌++◌}
 use Rattle.std.proofs.Math.Option.{Option, some, none}
 use Rattle.format.specs.Refusal.{Refusal}
 use Rattle.plan_packed.specs.Syntax.{Program}
-use Rattle.plan_packed.specs.Trees.{program_of_lem}
+use Rattle.plan_packed.specs.Trees.{program_of}
 use Rattle.log_records.specs.Record.{Record}
 use Rattle.rules.specs.State.{State}
 use Rattle.rules.specs.Step.{attempt}
@@ -59,9 +59,9 @@ pub data Previewed : Type 0 where
 
 -- the answer, by the refusal
 unfoldable pub previewed_by : List ℕ → List ℕ → ℕ → Option Refusal → Previewed
-unfolding shown_after program_of_lem run_of
+unfolding shown_after program_of run_of
 previewed_by plan schedule pick (some r) = refused r
-previewed_by plan schedule pick none = shows (shown_after (program_of_lem plan) (run_of plan schedule) pick)
+previewed_by plan schedule pick none = shows (shown_after (program_of plan) (run_of plan schedule) pick)
 
 -- the answer to a preview
 unfoldable pub previewed : List ℕ → List ℕ → ℕ → Previewed

@@ -10,7 +10,7 @@ use lib.ListN.{length, length-append}
 use borrow.Author.Tests.{le-ltb}
 use Rattle.format.specs.Area.{overwrite}
 use Rattle.plan_packed.specs.Syntax.{Program}
-use Rattle.plan_packed.specs.Trees.{program_of_lem}
+use Rattle.plan_packed.specs.Trees.{program_of}
 use Rattle.plan_packed.specs.Check.{refusal}
 use Rattle.plan_written.specs.Written.{written, written_plan}
 use Rattle.plan_written.proofs.RightPlans.{right_program}
@@ -27,29 +27,29 @@ use Rattle.read.specs.Read as texts
 use Rattle.read.specs.Read.{too_many, short_for_plan, answer_by, area_by, read_answer, read_area}
 
 module _ (b : List ℕ) (h : refusal b ≡ none) where
-  fits : Fit 11490 (shown_plan (program_of_lem b))
-  fits = plan_fit (program_of_lem b) (right_program b h)
+  fits : Fit 11490 (shown_plan (program_of b))
+  fits = plan_fit (program_of b) (right_program b h)
 
   -- the tokens of its text
-  codes : codes_of (shown_text b) ≡ shown_plan (program_of_lem b) ++ (text_end ∷ [])
+  codes : codes_of (shown_text b) ≡ shown_plan (program_of b) ++ (text_end ∷ [])
   unfolding shown_text text_of_program
-  codes = found_again (shown_plan (program_of_lem b)) (known fits)
+  codes = found_again (shown_plan (program_of b)) (known fits)
 
   -- "reading what show wrote gives the canonical plan [..], for every accepted plan"
-  pub shown_read : read_plan (codes_of (shown_text b)) ≡ plan (program_of_lem b)
+  pub shown_read : read_plan (codes_of (shown_text b)) ≡ plan (program_of b)
   shown_read = ap read_plan codes ∙ plan_back b h
 
   few : length (codes_of (shown_text b)) ≤ 16384
-  few = omega (arith, ap length codes, length-append (shown_plan (program_of_lem b)) (text_end ∷ []), fits.few)
+  few = omega (arith, ap length codes, length-append (shown_plan (program_of b)) (text_end ∷ []), fits.few)
 
   -- the area begins with it, where it is long enough
   pub shown_area : (area : List ℕ) → length (written_plan b) ≤ length area → read_area (shown_text b) area ≡ overwrite (written_plan b) area
   unfolding read_area too_many area_by short_for_plan written_plan
-  shown_area area l = rw (le-ltb 16384 (length (codes_of (shown_text b))) few, shown_read, le-ltb (length area) (length (written (program_of_lem b))) l) refl
+  shown_area area l = rw (le-ltb 16384 (length (codes_of (shown_text b))) few, shown_read, le-ltb (length area) (length (written (program_of b))) l) refl
 
   pub shown_answer : (area : List ℕ) → length (written_plan b) ≤ length area → read_answer (shown_text b) area ≡ texts.Read.written (length (written_plan b))
   unfolding read_answer too_many answer_by short_for_plan written_plan
-  shown_answer area l = rw (le-ltb 16384 (length (codes_of (shown_text b))) few, shown_read, le-ltb (length area) (length (written (program_of_lem b))) l) refl
+  shown_answer area l = rw (le-ltb 16384 (length (codes_of (shown_text b))) few, shown_read, le-ltb (length area) (length (written (program_of b))) l) refl
 
 module _ (text : List ℕ) (g : Program) (e : read_plan (codes_of text) ≡ plan g) where
   -- "what read writes passes the check", and is a plan of the program that was read

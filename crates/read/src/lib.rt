@@ -12,7 +12,7 @@ use plan_lexer::places;
 use plan_reader::Outcome;
 
 // What `read` answers.
-#[derive(Drop)]
+#[derive(Clone, Copy)]
 pub enum ReadAnswer {
     // The plan is written; its length.
     Written(usize),

@@ -8,7 +8,7 @@ use mathlib.Core.List.{List}
 use mathlib.Core.Option.{none}
 use lib.ListN.{get_or}
 use Rattle.plan_packed.specs.Format.{terms}
-use Rattle.plan_packed.specs.Trees.{node_at, program_of_lem}
+use Rattle.plan_packed.specs.Trees.{node_at, program_of}
 use Rattle.plan_packed.specs.Check.{refusal}
 use Rattle.rules.proofs.StateLaws.{there as present}
 use Rattle.machine.specs.Inner.Frames as frames
@@ -106,7 +106,7 @@ meets_more sight.Lacking p r A Z Z' f h = h
 meets_more (sight.Blocked x) p r A Z Z' f h = h
 
 -- WHAT A LOOK SAYS IS WHAT THE THREAD CAN DO, AND WHERE IT IS READY WHAT THE CODE DOES IS ITS MOVE
-pub looks : (b : List ℕ) → refusal b ≡ none → (m : engine.EngineState) (s : machine.State) → Related b m s → Reached (table_of b) (program_of_lem b) s →
+pub looks : (b : List ℕ) → refusal b ≡ none → (m : engine.EngineState) (s : machine.State) → Related b m s → Reached (table_of b) (program_of b) s →
     (p : ℕ) → p < 8
     → p < m.tally.counts.threads
     → MeetsBy (look_met (setting_of b) (met m p)) p (head_at m.heads p).ready (machine.attempt (table_of b) s p) (Ahead b m s p)

@@ -12,10 +12,10 @@ use borrow.Author.Tests.{leb-false}
 use Rattle.format.specs.Version.{v0, v1, version_of}
 use Rattle.run_keys.specs.declared.KeySet.{KeySet}
 use Rattle.run_keys.specs.Keys.{Keys, singleton, union, subset, count_new}
-use Rattle.run_keys.specs.Inner.KeySet.{keys_of, empty_set, holds_of, learn_of, join_of_lem, new_of, joined_of}
+use Rattle.run_keys.specs.Inner.KeySet.{keys_of, empty_set, holds_of, learn_of, join_of, new_of, joined_of}
 use Rattle.run_keys.proofs.KeySetLaws.{Fits, keys_empty, keys_join, keys_learn, fits_empty, fits_join, fits_learn}
 use Rattle.plan_packed.specs.Format.{version, terms}
-use Rattle.plan_packed.specs.Trees.{node_at, program_of_lem}
+use Rattle.plan_packed.specs.Trees.{node_at, program_of}
 use Rattle.log_records.specs.Record.{entry}
 use Rattle.log_records.specs.Record as records
 use Rattle.rules.specs.State as rules
@@ -113,7 +113,7 @@ module _ {b : List ℕ} {m : engine.EngineState} {s : machine.State} {p : ℕ} (
 
       value_fits : (y : Bool) → machine.lookup s o f ≡ some (cell_meant y c) → c.value < 32
       value_fits y e =
-          let h = cell_there (table_of b) (program_of_lem b) s reach o f (cell_meant y c) e in
+          let h = cell_there (table_of b) (program_of b) s reach o f (cell_meant y c) e in
           let q = meant_value y c in
           let z = reach.roomy.objects32 in
           omega arith
@@ -133,7 +133,7 @@ module _ {b : List ℕ} {m : engine.EngineState} {s : machine.State} {p : ℕ} (
         attempts mover (frames.Ready.read o f) code (ap (machine.read_act (table_of b) s p t o f) e ∙ test_true ((table_of b).is_volatile f) _ _ v),
         moved mover _ i e_readv (some (entry records.Kind.readv p o f c.value)) (machine.hear s p heard) (up (node_at b) (terms b) S c.value)
             (go_value c.value) n
-            (join_of_lem ks (passed_of (setting_of b) c.keys)) (new_of ks (passed_of (setting_of b) c.keys)) c nothing
+            (join_of ks (passed_of (setting_of b) c.keys)) (new_of ks (passed_of (setting_of b) c.keys)) c nothing
             (entry_of (records.kind_number records.Kind.readv) o f c.value) refl
             (written mover records.Kind.readv o f c.value ho hf (value_fits true e)) refl refl
             (well, value_fits true e, refl) (fits_join fits (passed_fits c.keys fit.keys))
@@ -202,7 +202,7 @@ module _ {b : List ℕ} {m : engine.EngineState} {s : machine.State} {p : ℕ} (
           → MeetsBy (cond x (cond y sight.Ready (cond z sight.Ready sight.Lacking)) (sight.Blocked block.Field)) p (ready_of redex.Write o f w environment)
           (machine.attempt (table_of b) s p)
           (Acts mover (ready_of redex.Write o f w environment) i (cond y
-          (acted_of (go_value w) n ks (cell_of w 0 (join_of_lem c.keys (passed_of (setting_of b) ks))) (entry_of (records.kind_number records.Kind.writev) o f w))
+          (acted_of (go_value w) n ks (cell_of w 0 (join_of c.keys (passed_of (setting_of b) ks))) (entry_of (records.kind_number records.Kind.writev) o f w))
           (cond u
           (act.NoRoom room.Key)
           (acted_of (go_value w) (counts_of n.threads n.objects (n.keys + 1)) (learn_of ks n.keys) (cell_of w n.keys c.keys)
@@ -216,10 +216,10 @@ module _ {b : List ℕ} {m : engine.EngineState} {s : machine.State} {p : ℕ} (
         moved mover _ i e_writev (some (entry records.Kind.writev p o f w))
             (machine.store s o f (rules.cell (union (keys_of c.keys) (passed_on (table_of b).version t.keys)) w)) (up (node_at b) (terms b) S w)
             (go_value w) n
-            ks 0 (cell_of w 0 (join_of_lem c.keys (passed_of (setting_of b) ks))) nothing (entry_of (records.kind_number records.Kind.writev) o f w) refl
+            ks 0 (cell_of w 0 (join_of c.keys (passed_of (setting_of b) ks))) nothing (entry_of (records.kind_number records.Kind.writev) o f w) refl
             (written mover records.Kind.writev o f w ho hf hw) refl refl
             (well, hw, refl) fits (unlearnt mover)
-            (stored true (cell_of w 0 (join_of_lem c.keys (passed_of (setting_of b) ks))) _ g
+            (stored true (cell_of w 0 (join_of c.keys (passed_of (setting_of b) ks))) _ g
             (ap₂ rules.cell (keys_join fit.keys (passed_fits ks fits)
             ∙ ap (union (keys_of c.keys)) (passed_keys ks ∙ ap (passed_on (table_of b).version) known)) (mod-eq_of_lt hw))
             (record { key = omega arith; keys = fits_join fit.keys (passed_fits ks fits) }) refl k),

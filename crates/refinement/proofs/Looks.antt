@@ -14,7 +14,7 @@ use Rattle.run_keys.specs.Inner.KeySet.{keys_of, holds_of}
 use Rattle.run_keys.proofs.KeyLaws.{subset_singleton}
 use Rattle.run_keys.proofs.KeySetLaws.{Fits, keys_holds}
 use Rattle.plan_packed.specs.Format.{mask_bit, volatiles}
-use Rattle.plan_packed.specs.Trees.{program_of_lem}
+use Rattle.plan_packed.specs.Trees.{program_of}
 use Rattle.plan_packed.specs.Check.{refusal}
 use Rattle.plan_packed.proofs.Accepted.{accepted}
 use Rattle.log_records.specs.Record.{Record, kind_number}
@@ -158,12 +158,12 @@ module _ (table : machine.Table) (s : machine.State) (p : ℕ) where
     attempt_condition S Q e = attempt_here ∙ ap (machine.attempt_at table s p t) e
 
 -- what is ready is there
-pub ready_there : (b : List ℕ) (s : machine.State) (p : ℕ) (t : machine.Thread) → Reached (table_of b) (program_of_lem b) s → get_elem? s.threads p ≡ some t
+pub ready_there : (b : List ℕ) (s : machine.State) (p : ℕ) (t : machine.Thread) → Reached (table_of b) (program_of b) s → get_elem? s.threads p ≡ some t
     → (S : List frames.Frame) (R : frames.Ready) → t.expression ≡ frames.Found.here S R
-    → placed.Ready (program_of_lem b) (length s.objects) (redex_of (table_of b).node (table_of b).count R)
+    → placed.Ready (program_of b) (length s.objects) (redex_of (table_of b).node (table_of b).count R)
 ready_there b s p t r there S R e =
-    (along (λ (F : frames.Found). placed.Good (program_of_lem b) (length s.objects) (mean (table_of b).node (table_of b).count F)) e
-    (standing (table_of b) (program_of_lem b) s p t r there).good).1
+    (along (λ (F : frames.Found). placed.Good (program_of b) (length s.objects) (mean (table_of b).node (table_of b).count F)) e
+    (standing (table_of b) (program_of b) s p t r there).good).1
 
 -- a plain field's one key
 pub one_key : (c : Cell) (ks : KeySet) (K : Keys) → CellFits c → Fits ks → keys_of ks ≡ K → subset (cell_meant false c).keys K ≡ holds_of ks (c.key % 256)

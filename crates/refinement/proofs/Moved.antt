@@ -28,7 +28,7 @@ use Rattle.run_state.specs.declared.Counts.{Counts}
 use Rattle.run_state.specs.declared.acted.Acted.{Acted}
 use Rattle.run_pick.specs.declared.Met.{Met}
 use Rattle.run_pick.specs.Inner.Answer.{Move}
-use Rattle.run_pick.specs.Inner.Pick.{no_head, forks_of, full_of, mover_of, forked_of, move_of_lem, refocus_mover, forked_go, refocus_forked}
+use Rattle.run_pick.specs.Inner.Pick.{no_head, forks_of, full_of, mover_of, forked_of, move_of, refocus_mover, forked_go, refocus_forked}
 use Rattle.run_queue.specs.Inner.Queue.{after_of}
 use Rattle.run_engine.specs.Inner.Engine as engine
 use Rattle.run_engine.specs.Inner.Engine.{head_at, cell_number, after}
@@ -48,7 +48,7 @@ refocused_forked ws rs x l forks = cond forks (refocus_forked ws rs x l.stack) (
 
 -- what the move leaves
 abbrev pub left : List ℕ → List ℕ → Met → Acted → Stack → Bool → Move
-left ws rs x a k forks = move_of_lem x a (refocus_mover ws rs x a k).refocused (forked_of x (refocused_forked ws rs x (refocus_mover ws rs x a k) forks).refocused)
+left ws rs x a k forks = move_of x a (refocus_mover ws rs x a k).refocused (forked_of x (refocused_forked ws rs x (refocus_mover ws rs x a k) forks).refocused)
     forks
 
 -- the heads, where a thread was made and where none was

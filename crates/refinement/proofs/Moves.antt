@@ -8,7 +8,7 @@ use lib.ListN.{set, get_elem?}
 use Rattle.run_keys.specs.Keys.{Keys}
 use Rattle.run_keys.specs.Inner.KeySet.{keys_of}
 use Rattle.run_keys.proofs.KeySetLaws.{Fits}
-use Rattle.plan_packed.specs.Trees.{program_of_lem}
+use Rattle.plan_packed.specs.Trees.{program_of}
 use Rattle.plan_packed.specs.Check.{refusal}
 use Rattle.rules.specs.Queue.{awake}
 use Rattle.rules.specs.State.{change_at}
@@ -58,7 +58,7 @@ mover_in F K l x = record { self = x.self; expression = F; keys = K; learnt = l;
 pub record Mover (b : List ℕ) (m : engine.EngineState) (s : machine.State) (p : ℕ) : Type 0 where
   pub ok : refusal b ≡ none
   pub related : Related b m s
-  pub reached : Reached (table_of b) (program_of_lem b) s
+  pub reached : Reached (table_of b) (program_of b) s
   pub small : p < 8
   pub thread : machine.Thread
   pub there : get_elem? s.threads p ≡ some thread

@@ -10,7 +10,7 @@ use lib.Bits.{or_comm}
 use lib.ListN.{length, get_or, set}
 use Rattle.run_keys.specs.declared.KeySet.{KeySet}
 use Rattle.run_keys.specs.Keys.{Keys, union, count_new}
-use Rattle.run_keys.specs.Inner.KeySet.{keys_of, join_of_lem, new_of}
+use Rattle.run_keys.specs.Inner.KeySet.{keys_of, join_of, new_of}
 use Rattle.run_keys.proofs.KeySetLaws.{Fits, keys_join, keys_new}
 use Rattle.log_records.specs.Record.{Record, entry}
 use Rattle.log_records.specs.Record as records
@@ -116,7 +116,7 @@ module _ {b : List ℕ} {m : engine.EngineState} {s : machine.State} {p : ℕ} (
   pub joined_new : (c : KeySet) → Fits c → count_new (keys_of c) t.keys ≡ new_of ks c
   joined_new c f = ap (count_new (keys_of c)) (sym known) ∙ sym (keys_new fits f)
 
-  pub joined : (c : KeySet) → Fits c → union (keys_of c) t.keys ≡ keys_of (join_of_lem ks c)
+  pub joined : (c : KeySet) → Fits c → union (keys_of c) t.keys ≡ keys_of (join_of ks c)
   unfolding union
   joined c f = ap (union (keys_of c)) (sym known) ∙ or_comm (keys_of c) (keys_of ks) ∙ sym (keys_join fits f)
 

@@ -12,10 +12,10 @@ use lib.ListN.{length, get_or, set, get_elem?}
 use borrow.Author.Tests.{leb-false, lt-leb}
 use Rattle.run_keys.specs.declared.KeySet.{KeySet}
 use Rattle.run_keys.specs.Keys.{Keys, union, count_new}
-use Rattle.run_keys.specs.Inner.KeySet.{keys_of, join_of_lem, new_of, joined_of}
+use Rattle.run_keys.specs.Inner.KeySet.{keys_of, join_of, new_of, joined_of}
 use Rattle.run_keys.proofs.KeySetLaws.{Fits, fits_join}
 use Rattle.plan_packed.specs.Format.{terms, mask_bit, fields_from}
-use Rattle.plan_packed.specs.Trees.{node_at, program_of_lem}
+use Rattle.plan_packed.specs.Trees.{node_at, program_of}
 use Rattle.log_records.specs.Record.{entry}
 use Rattle.log_records.specs.Record as records
 use Rattle.rules.specs.Queue.{awake}
@@ -76,7 +76,7 @@ module _ {b : List ℕ} {m : engine.EngineState} {s : machine.State} {p : ℕ} (
   -- no thread has the next object for its own
   strange : Strange s.threads n.objects
   strange q u h e =
-      let z = (standing (table_of b) (program_of_lem b) s q u reach h).self_there in
+      let z = (standing (table_of b) (program_of b) s q u reach h).self_there in
       let c = k.objects_count in
       omega arith
 
@@ -268,7 +268,7 @@ module _ {b : List ℕ} {m : engine.EngineState} {s : machine.State} {p : ℕ} (
             acted (some q) e ∙ ap (λ (v : Option ℕ). machine.around (table_of b) p S (machine.join_value s p o q v)) f,
             moved mover _ i e_join (some (entry records.Kind.join p o q.number h.ready.first)) (machine.hear s p q.thread.keys)
                 (up (node_at b) (terms b) S h.ready.first) (go_value h.ready.first) n
-                (join_of_lem ks h.keys) (new_of ks h.keys) (get_or cs i no_cell) nothing
+                (join_of ks h.keys) (new_of ks h.keys) (get_or cs i no_cell) nothing
                 (entry_of (records.kind_number records.Kind.join) o q.number h.ready.first) refl
                 (written mover records.Kind.join o q.number h.ready.first ho (omega arith) v) refl refl
                 (well, v, refl) (fits_join fits fit)

@@ -8,7 +8,7 @@ use mathlib.Core.Option.{some, none}
 use lib.Dec.{leb}
 use borrow.Author.Tests.{leb-false, leb-true}
 use Rattle.format.specs.Refusal.{or_else}
-use Rattle.plan_packed.specs.Trees.{program_of_lem}
+use Rattle.plan_packed.specs.Trees.{program_of}
 use Rattle.plan_packed.specs.Check.{refusal}
 use Rattle.log_records.specs.Record.{Record}
 use Rattle.rules.specs.Room as rooms
@@ -31,7 +31,7 @@ use Rattle.run_look.specs.declared.Sight.{Sight}
 use Rattle.run_look.specs.declared.Sight.TheVariants as sight
 use Rattle.run_pick.specs.declared.Met.{Met}
 use Rattle.run_pick.specs.Inner.Answer.{PickAnswer, PickAnswer as answer}
-use Rattle.run_pick.specs.Inner.Pick.{Picked, picked, no_room, no_head, forks_of, full_of, move_of_lem, refocus_mover, start_by, refocus_by, make_by, act_met, pick_by}
+use Rattle.run_pick.specs.Inner.Pick.{Picked, picked, no_room, no_head, forks_of, full_of, move_of, refocus_mover, start_by, refocus_by, make_by, act_met, pick_by}
 use Rattle.run_pick.specs.Inner.Pick.{look_met, pick_of}
 use Rattle.run_engine.specs.Inner.Engine as engine
 use Rattle.run_engine.specs.Inner.Engine.{head_at, cell_number, met_by, after, turn_by}
@@ -118,7 +118,7 @@ module _ {b ws rs : List ℕ} (loaded : WordsAndRoots b ws rs) {m : engine.Engin
             → By b m s p (cond d (picked L.stack (no_room room.Depth))
             (cond f
             (cond y (picked (Y true).stack (no_room room.Depth)) (picked (Y true).stack (answer.Moved (left ws rs x a m.stack true))))
-            (picked L.stack (answer.Moved (move_of_lem x a L.refocused no_head false)))))
+            (picked L.stack (answer.Moved (move_of x a L.refocused no_head false)))))
         by true f y ed ef ey = (answered true (ap (λ (d : Bool). d || forked_full) ed), refl)
         by false true true ed ef ey = (answered true (ap₂ (λ (d f : Bool). d || (f && full_of (Y f).refocused)) ed ef ∙ ey), refl)
         by false true false ed ef ey = moved true ef ed ey
@@ -133,7 +133,7 @@ module _ {b ws rs : List ℕ} (loaded : WordsAndRoots b ws rs) {m : engine.Engin
 -- ---- a pick
 
 module _ (b ws rs : List ℕ) (ok : refusal b ≡ none) (loaded : WordsAndRoots b ws rs) (m : engine.EngineState) (s : machine.State) (rel : Related b m s)
-    (reach : Reached (table_of b) (program_of_lem b) s) (p : ℕ) (small : p < 8) where
+    (reach : Reached (table_of b) (program_of b) s) (p : ℕ) (small : p < 8) where
   -- of a thread that is there
   met_by_lem : (w : Sight) → MeetsBy w p (head_at m.heads p).ready (machine.attempt (table_of b) s p) (Ahead b m s p)
       → By b m s p (pick_by ws rs (setting_of b) (met m p) w m.stack)

@@ -10,7 +10,7 @@ use mathlib.Core.Option.{Option, none}
 use lib.Dec.{leb}
 use lib.ListN.{length, get_or, get_elem?, drop}
 use borrow.Author.Tests.{leb-false, leb-true}
-use Rattle.plan_packed.specs.Trees.{program_of_lem}
+use Rattle.plan_packed.specs.Trees.{program_of}
 use Rattle.plan_packed.specs.Check.{refusal}
 use Rattle.log_records.specs.Record.{Record}
 use Rattle.log_records.specs.Packed.{bytes_of}
@@ -106,7 +106,7 @@ cons_same : {A : Type 0} {x y : A} {xs ys : List A} → x ≡ y → xs ≡ ys �
 cons_same {A} e h = ap₂ {C = List A} (λ x xs. x ∷ xs) e h
 
 -- what the code says of its threads is what they can do
-statuses : (b : List ℕ) → refusal b ≡ none → (m : engine.EngineState) (s : machine.State) → Related b m s → Reached (table_of b) (program_of_lem b) s
+statuses : (b : List ℕ) → refusal b ≡ none → (m : engine.EngineState) (s : machine.State) → Related b m s → Reached (table_of b) (program_of b) s
     → map status_of (threads_of (setting_of b) m.tally.counts m.heads m.cells m.objects m.places) ≡ playing.statuses_from (table_of b) s 0 8
 unfolding threads_of met_by thread_by playing.statuses_from playing.status
 statuses b ok m s rel reach =
@@ -127,7 +127,7 @@ statuses b ok m s rel reach =
             (looks b ok m s rel reach p h (leb-false m.tally.counts.threads p e))
 
 -- what it says of their totals too
-totals : (b : List ℕ) (m : engine.EngineState) (s : machine.State) → Related b m s → Reached (table_of b) (program_of_lem b) s
+totals : (b : List ℕ) (m : engine.EngineState) (s : machine.State) → Related b m s → Reached (table_of b) (program_of b) s
     → map (λ (t : Thread). t.learnt) (threads_of (setting_of b) m.tally.counts m.heads m.cells m.objects m.places) ≡ playing.totals_from s 0 8
 unfolding threads_of met_by thread_by playing.totals_from playing.total_of
 totals b m s rel reach =
@@ -192,10 +192,10 @@ module _ (b ws rs : List ℕ) (ok : refusal b ≡ none) (loaded : WordsAndRoots 
   -- the rest of a play
   abbrev Rest : List ℕ → ℕ → Type 0
   Rest ps i =
-      (m : engine.EngineState) (s : machine.State) → Related b m s → Reached (table_of b) (program_of_lem b) s → 3 * (m.tally.records + length ps) ≤ length m.log
+      (m : engine.EngineState) (s : machine.State) → Related b m s → Reached (table_of b) (program_of b) s → 3 * (m.tally.records + length ps) ≤ length m.log
       → PlaysAs b m.every i m.tally.moves m.tally.records m.log (play_of ws rs (setting_of b) m ps i) (playing.run (table_of b) s ps)
 
-  module _ (m : engine.EngineState) (s : machine.State) (rel : Related b m s) (reach : Reached (table_of b) (program_of_lem b) s) (p : ℕ) (small : p < 8)
+  module _ (m : engine.EngineState) (s : machine.State) (rel : Related b m s) (reach : Reached (table_of b) (program_of b) s) (p : ℕ) (small : p < 8)
       (ps : List ℕ) (i : ℕ)
       (wide : 3 * (m.tally.records + suc (length ps)) ≤ length m.log) (rest : Rest ps (i + 1)) where
     abbrev go_on : machine.State → playing.Run
@@ -304,7 +304,7 @@ module _ (b ws rs : List ℕ) (ok : refusal b ≡ none) (loaded : WordsAndRoots 
     pick_plays = answered_plays turn.answer turn.stack (picks b ws rs ok loaded m s rel reach p small)
 
   -- THE CODE'S PLAY FROM A STATE IS THE ABSTRACT MACHINE'S RUN FROM WHAT IT STANDS FOR
-  plays : (ps : List ℕ) (i : ℕ) → Small ps → (m : engine.EngineState) (s : machine.State) → Related b m s → Reached (table_of b) (program_of_lem b) s
+  plays : (ps : List ℕ) (i : ℕ) → Small ps → (m : engine.EngineState) (s : machine.State) → Related b m s → Reached (table_of b) (program_of b) s
       → 3 * (m.tally.records + length ps) ≤ length m.log
       → PlaysAs b m.every i m.tally.moves m.tally.records m.log (play_of ws rs (setting_of b) m ps i) (playing.run (table_of b) s ps)
   unfolding play_of playing.run playing.stopped records_of instances
@@ -364,7 +364,7 @@ module _ (b ws rs : List ℕ) (ok : refusal b ≡ none) (loaded : WordsAndRoots 
         )
 
     -- AND SO THE DEFINED ONE
-    pub plays_defined : (outcome_meant (play_of ws rs (setting_of b) (start_of false rs area) ps 0).outcome ≡ outcome_of (program_of_lem b) (play (program_of_lem b) ps))
-        × ((play_of ws rs (setting_of b) (start_of false rs area) ps 0).area ≡ overwrite (bytes_of (log (play (program_of_lem b) ps))) area)
+    pub plays_defined : (outcome_meant (play_of ws rs (setting_of b) (start_of false rs area) ps 0).outcome ≡ outcome_of (program_of b) (play (program_of b) ps))
+        × ((play_of ws rs (setting_of b) (start_of false rs area) ps 0).area ≡ overwrite (bytes_of (log (play (program_of b) ps))) area)
     plays_defined =
         (plays_machine.0 ∙ sym (plays_outcome b ok ps), plays_machine.1 ∙ ap (λ (L : List Record). overwrite (bytes_of L) area) (sym (plays_log b ok ps)))

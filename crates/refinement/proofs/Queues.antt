@@ -17,7 +17,7 @@ use Rattle.rules.specs.State.{change_at}
 use Rattle.machine.specs.Inner.Machine as machine
 use Rattle.run_frames.specs.Inner.RedexKinds.{RedexKind as redex, is_redex}
 use Rattle.run_frames.specs.declared.refocusing.Ready.{Ready}
-use Rattle.run_queue.specs.Inner.Queue.{queued_on, count_of, last_of_lem, waited_of, nearer, notified_of, freed, all_notified_of, signalled_of, after_of}
+use Rattle.run_queue.specs.Inner.Queue.{queued_on, count_of, last_of, waited_of, nearer, notified_of, freed, all_notified_of, signalled_of, after_of}
 
 -- the place that a number stands for
 abbrev pub place_meant : ℕ → Place
@@ -101,7 +101,7 @@ places_more ws xs y e h i = h i ∙ at xs i
 
 pub waited : (o p : ℕ) (ws : List ℕ) (xs : List machine.Thread) (k : machine.Thread → machine.Thread) → o < 32 → p < length ws → p < length xs
     → ((x : machine.Thread) → (k x).place ≡ last_place o (places_of xs)) → Places ws (places_of xs) → Places (waited_of o p ws) (places_of (change_at xs p k))
-unfolding waited_of last_of_lem last_place
+unfolding waited_of last_of last_place
 waited o p ws xs k ho hp hq e h i = at (ℕ_discrete i p) ∙ ap (λ (ps : List Place). get_or ps i awake) (sym (places_set xs p k last e))
   where
     last : Place
@@ -212,8 +212,8 @@ after_size ws r p = by (is_redex redex.Signal r.redex) (eqb r.second 0) (eqb r.s
     o : ℕ
     o = r.first % 32
 
-    by : (x y z : Bool) → length (cond x (cond y (set ws p (last_of_lem o ws)) (cond z (map (nearer o) ws) (map (freed o) ws))) ws) ≡ length ws
+    by : (x y z : Bool) → length (cond x (cond y (set ws p (last_of o ws)) (cond z (map (nearer o) ws) (map (freed o) ws))) ws) ≡ length ws
     by false y z = refl
-    by true true z = length-set ws p (last_of_lem o ws)
+    by true true z = length-set ws p (last_of o ws)
     by true false true = length-map ws (nearer o)
     by true false false = length-map ws (freed o)

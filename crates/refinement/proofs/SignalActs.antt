@@ -10,11 +10,11 @@ use lib.Dec.{eqb, eqb-suc-zero}
 use lib.ListN.{get_or}
 use Rattle.run_keys.specs.declared.KeySet.{KeySet}
 use Rattle.run_keys.specs.Keys.{Keys, empty, is_empty, count_new}
-use Rattle.run_keys.specs.Inner.KeySet.{keys_of, empty_set, join_of_lem, new_of, joined_of, is_empty_of}
+use Rattle.run_keys.specs.Inner.KeySet.{keys_of, empty_set, join_of, new_of, joined_of, is_empty_of}
 use Rattle.run_keys.proofs.KeySetLaws.{keys_empty, keys_is_empty, fits_empty, fits_join}
 use Rattle.plan_packed.specs.Syntax.{Signal}
 use Rattle.plan_packed.specs.Format.{terms}
-use Rattle.plan_packed.specs.Trees.{node_at, program_of_lem}
+use Rattle.plan_packed.specs.Trees.{node_at, program_of}
 use Rattle.log_records.specs.Record.{entry}
 use Rattle.log_records.specs.Record as records
 use Rattle.rules.specs.Queue.{Place, last_place, moved_up}
@@ -216,7 +216,7 @@ module _ {b : List ℕ} {m : engine.EngineState} {s : machine.State} {p : ℕ} (
       found = monitor_cell k o (monitor_bit b ok) o_there ho ∙ ap (λ (i : ℕ). cell_meant true (get_or cs i no_cell)) (sym ei)
 
       self_fits : t.self < 32
-      self_fits = let z = (standing (table_of b) (program_of_lem b) s p t reach there).self_there in let l = reach.roomy.objects32 in omega arith
+      self_fits = let z = (standing (table_of b) (program_of b) s p t reach there).self_there in let l = reach.roomy.objects32 in omega arith
 
       c' : Cell
       c' = cell_of self 0 empty_set
@@ -239,7 +239,7 @@ module _ {b : List ℕ} {m : engine.EngineState} {s : machine.State} {p : ℕ} (
         moved mover _ i e_wake (some (entry records.Kind.acquire p o 0 0))
             (machine.hear (machine.store_monitor s o (rules.cell empty t.self)) p (keys_of c.keys))
             (up (node_at b) (terms b) S 0) (go_value 0) n
-            (join_of_lem ks c.keys) (new_of ks c.keys) c' nothing (entry_of (records.kind_number records.Kind.acquire) o 0 0) refl
+            (join_of ks c.keys) (new_of ks c.keys) c' nothing (entry_of (records.kind_number records.Kind.acquire) o 0 0) refl
             (written mover records.Kind.acquire o 0 0 ho (omega arith) (omega arith)) refl refl
             (well, omega arith, refl)
             (fits_join fits fit.keys)

@@ -11,8 +11,8 @@ use lib.Pow.{field, mod-mod-pow}
 use borrow.Author.Tests.{lt-ltb, le-ltb, eq-eqb, ne_eqb}
 use Rattle.plan_packed.specs.Trees.{binder_of}
 use Rattle.machine.specs.Inner.Frames.{no_slots, put, put_bound}
-use Rattle.machine.specs.Inner.PackedSlots.{slots_in, put_in_lem}
-use Rattle.machine.proofs.PackedSlots.{put_in}
+use Rattle.machine.specs.Inner.PackedSlots.{slots_in, put_in}
+use Rattle.machine.proofs.PackedSlots.{put_in_lem}
 use Rattle.run_term_words.specs.Inner.Slots.{slot_of, bind_of}
 
 slot_in : (e y : ℕ) → y < 8 → slot_of e y ≡ slots_in e y
@@ -33,8 +33,8 @@ slot_cut e y h =
     let m : e / 2 ^ (5 * y) % 2 ^ (40 - 5 * y) % 32 ≡ e / 2 ^ (5 * y) % 32 = rw q at (mod-mod-pow (e / 2 ^ (5 * y)) (35 - 5 * y) 5) in
     ap (λ (n : ℕ). n % 32) f ∙ m
 
-bind_in : (e x v : ℕ) → x < 8 → v < 32 → bind_of e x v ≡ put_in_lem (e % 2 ^ 40) x v
-unfolding bind_of put_in_lem
+bind_in : (e x v : ℕ) → x < 8 → v < 32 → bind_of e x v ≡ put_in (e % 2 ^ 40) x v
+unfolding bind_of put_in
 bind_in e x v h l =
     let m : v % 32 ≡ v = omega arith in
     rw (lt-ltb x 8 h, m, mul_comm x 5)
@@ -53,7 +53,7 @@ bound e x v h l = fun_ext (λ y. at y (dec_lt y 8))
   where
     at : (y : ℕ) → Dec (y < 8) → slot_of (bind_of e x v) y ≡ put (slot_of e) x v y
     at y (yes s) =
-        slot_in (bind_of e x v) y s ∙ ap (λ (w : ℕ). slots_in w y) (bind_in e x v h l) ∙ ap (λ (g : ℕ → ℕ). g y) (put_in (e % 2 ^ 40) x v l)
+        slot_in (bind_of e x v) y s ∙ ap (λ (w : ℕ). slots_in w y) (bind_in e x v h l) ∙ ap (λ (g : ℕ → ℕ). g y) (put_in_lem (e % 2 ^ 40) x v l)
         ∙ ap (λ (o : ℕ). cond (eqb x y) v o) (slot_cut e y s ∙ sym (slot_in e y s))
     at y (no s) =
         let p : 8 ≤ y = omega arith in

@@ -7,7 +7,7 @@ use mathlib.Core.Option.{some}
 use lib.Dec.{T}
 use Rattle.plan_packed.specs.Syntax.{Expression, Condition, Arguments, literal, end, argument, bool}
 use Rattle.rules.specs.Context.{Context, Contextᶜ, read, write₁, write₂, call, let_in, synch, hold, join, signal, equal₁, equal₂, literals, plug, plugᶜ}
-use Rattle.rules.specs.Context.{Focus, value, here, hereᶜ, focus, focusᶜ, focusᵃ, as_literal, as_bool_lem, is_truth, false_when, redex_expression}
+use Rattle.rules.specs.Context.{Focus, value, here, hereᶜ, focus, focusᶜ, focusᵃ, as_literal, as_bool, is_truth, false_when, redex_expression}
 use Rattle.rules.specs.Context.{redex_condition, on_literal, on_bool, on_not}
 
 -- the context with the part in its hole is w
@@ -48,8 +48,8 @@ back_false w c k r true q h h' = h false (ap {B = Condition} Condition.not (trut
 back_false w c k r false q h h' = h'
 
 back_bool : (w : Expression) (c : Condition) (k : Bool → Focus) (r : Focus) → ((b : Bool) → c ≡ bool b → Back w (k b)) → Back w r
-    → Back w (on_bool (as_bool_lem c) k r)
-unfolding as_bool_lem bool
+    → Back w (on_bool (as_bool c) k r)
+unfolding as_bool bool
 back_bool w Condition.truth k r h h' = h true refl
 back_bool w (Condition.not c) k r h h' = back_false w c k r (is_truth c) refl h h'
 back_bool w (Condition.and c c') k r h h' = h'
@@ -121,9 +121,9 @@ unfolding false_when bool
 as_false c true v q h = let e : false ≡ v = cc in rw (← e, truth_is c (rw q tt))
 as_false c false v q h = cc
 
-pub as_bool : (c : Condition) (b : Bool) → as_bool_lem c ≡ some b → c ≡ bool b
-unfolding as_bool_lem bool
-as_bool Condition.truth b h = let e : true ≡ b = cc in rw (← e)
-as_bool (Condition.not c) b h = as_false c (is_truth c) b refl h
-as_bool (Condition.and c c') b h = cc
-as_bool (Condition.equal e e') b h = cc
+pub as_bool_lem : (c : Condition) (b : Bool) → as_bool c ≡ some b → c ≡ bool b
+unfolding as_bool bool
+as_bool_lem Condition.truth b h = let e : true ≡ b = cc in rw (← e)
+as_bool_lem (Condition.not c) b h = as_false c (is_truth c) b refl h
+as_bool_lem (Condition.and c c') b h = cc
+as_bool_lem (Condition.equal e e') b h = cc

@@ -6,10 +6,10 @@ use mathlib.Core.List.{List, [], ◌∷◌, ◌++◌}
 use mathlib.Core.Option.{Option, some, none, some-ne-none}
 use Rattle.plan_packed.specs.Syntax.{Expression, Condition, Arguments, literal, end, argument, bool}
 use Rattle.rules.specs.Context.{Context, Contextᶜ, top, read, write₁, write₂, call, let_in, synch, hold, join, signal, equal₁, equal₂, plug, plugᶜ}
-use Rattle.rules.specs.Context.{Focus, value, here, hereᶜ, focus, focusᶜ, focusᵃ, as_literal, as_bool_lem, redex_expression, redex_condition, on_literal, on_bool}
+use Rattle.rules.specs.Context.{Focus, value, here, hereᶜ, focus, focusᶜ, focusᵃ, as_literal, as_bool, redex_expression, redex_condition, on_literal, on_bool}
 use Rattle.rules.specs.Context.{on_not}
 use Rattle.rules.proofs.FocusPlug.{found, foundᶜ}
-use Rattle.rules.proofs.Back.{Back, back, as_literal_lem, as_bool}
+use Rattle.rules.proofs.Back.{Back, back, as_literal_lem, as_bool_lem}
 
 -- ---- what is no value moves somewhere
 
@@ -27,13 +27,13 @@ some_bool (some b) k r h h' = h b refl
 some_bool none k r h h' = h' refl
 
 -- a negation that is no value is of no true condition
-some_not : (K : Contextᶜ) (c : Condition) (b : Bool) → c ≡ bool b → as_bool_lem (Condition.not c) ≡ none → Somewhere (on_not K b)
-unfolding bool as_bool_lem
+some_not : (K : Contextᶜ) (c : Condition) (b : Bool) → c ≡ bool b → as_bool (Condition.not c) ≡ none → Somewhere (on_not K b)
+unfolding bool as_bool
 some_not K c true q h = absurd (some-ne-none false (rw q at h))
 some_not K c false q h = tt
 
 mutual
-  unfolding focus as_literal as_bool_lem
+  unfolding focus as_literal as_bool
 
   somewhere : (K : Context) (e : Expression) → as_literal e ≡ none → Somewhere (focus K e)
   somewhere K (Expression.literal o) h = absurd (some-ne-none o h)
@@ -43,7 +43,7 @@ mutual
   somewhere K (Expression.write e f e') h =
       some_literal (as_literal e) _ _ (λ o. some_literal (as_literal e') _ _ (λ v. tt) (λ q. somewhere (write₂ K o f) e' q)) (λ q. somewhere (write₁ K f e') e q)
   somewhere K (Expression.let_in x e e') h = some_literal (as_literal e) _ _ (λ o. tt) (λ q. somewhere (let_in K x e') e q)
-  somewhere K (Expression.if c e e') h = some_bool (as_bool_lem c) _ _ (λ b q. tt) (λ q. somewhereᶜ (Contextᶜ.if K e e') c q)
+  somewhere K (Expression.if c e e') h = some_bool (as_bool c) _ _ (λ b q. tt) (λ q. somewhereᶜ (Contextᶜ.if K e e') c q)
   somewhere K (Expression.while c e) h = tt
   somewhere K (Expression.call m es) h = somewhereᵃ K m [] es
   somewhere K (Expression.fork e) h = tt
@@ -53,10 +53,10 @@ mutual
   somewhere K (Expression.signal j e) h = some_literal (as_literal e) _ _ (λ o. tt) (λ q. somewhere (signal K j) e q)
   somewhere K (Expression.waiting o) h = tt
 
-  somewhereᶜ : (K : Contextᶜ) (c : Condition) → as_bool_lem c ≡ none → Somewhere (focusᶜ K c)
+  somewhereᶜ : (K : Contextᶜ) (c : Condition) → as_bool c ≡ none → Somewhere (focusᶜ K c)
   somewhereᶜ K Condition.truth h = absurd (some-ne-none true h)
-  somewhereᶜ K (Condition.not c) h = some_bool (as_bool_lem c) _ _ (λ b q. some_not K c b (as_bool c b q) h) (λ q. somewhereᶜ (Contextᶜ.not K) c q)
-  somewhereᶜ K (Condition.and c c') h = some_bool (as_bool_lem c) _ _ (λ b q. tt) (λ q. somewhereᶜ (Contextᶜ.and K c') c q)
+  somewhereᶜ K (Condition.not c) h = some_bool (as_bool c) _ _ (λ b q. some_not K c b (as_bool_lem c b q) h) (λ q. somewhereᶜ (Contextᶜ.not K) c q)
+  somewhereᶜ K (Condition.and c c') h = some_bool (as_bool c) _ _ (λ b q. tt) (λ q. somewhereᶜ (Contextᶜ.and K c') c q)
   somewhereᶜ K (Condition.equal e e') h =
       some_literal (as_literal e) _ _ (λ o. some_literal (as_literal e') _ _ (λ v. tt) (λ q. somewhere (equal₂ K o) e' q)) (λ q. somewhere (equal₁ K e') e q)
 

@@ -6,7 +6,7 @@ use mathlib.Core.List.{List, [], ◌∷◌}
 use mathlib.Core.Option.{Option, some, none}
 use lib.ListN.{length, get_elem?}
 use Rattle.plan_packed.specs.Syntax.{Expression, Program}
-use Rattle.plan_packed.specs.Trees.{program_of_lem}
+use Rattle.plan_packed.specs.Trees.{program_of}
 use Rattle.plan_packed.specs.Check.{refusal}
 use Rattle.plan_packed.proofs.WellFormed.{WellFormedProgram}
 use Rattle.plan_packed.proofs.Decoded.{well_formed}
@@ -161,20 +161,20 @@ total_small g P ps p n h = listed_small (play g ps).final (reachable_run g P sta
 -- ---- accepted plans
 
 -- every run of an accepted plan is an execution
-pub plan_executes : (b : List ℕ) → refusal b ≡ none → (ps : List ℕ) → Execution (program_of_lem b) start ps (play (program_of_lem b) ps)
-plan_executes b h ps = play_executes (program_of_lem b) (well_formed b h) ps
+pub plan_executes : (b : List ℕ) → refusal b ≡ none → (ps : List ℕ) → Execution (program_of b) start ps (play (program_of b) ps)
+plan_executes b h ps = play_executes (program_of b) (well_formed b h) ps
 
 -- after any picks, no thread of an accepted plan is stuck for a reason that document 01 does not give
 pub plan_never_ruleless : (b : List ℕ) → refusal b ≡ none → (ps : List ℕ) (p : ℕ)
-    → attempt (program_of_lem b) (play (program_of_lem b) ps).final p ≡ AttemptOf.stuck no_rule → ⊥
-plan_never_ruleless b h ps p = never_ruleless (program_of_lem b) (well_formed b h) ps p
+    → attempt (program_of b) (play (program_of b) ps).final p ≡ AttemptOf.stuck no_rule → ⊥
+plan_never_ruleless b h ps p = never_ruleless (program_of b) (well_formed b h) ps p
 
 -- after any picks, the next plain write's key is in no set
-pub plan_new_keys : (b : List ℕ) → refusal b ≡ none → (ps : List ℕ) → Unused (play (program_of_lem b) ps).final
+pub plan_new_keys : (b : List ℕ) → refusal b ≡ none → (ps : List ℕ) → Unused (play (program_of b) ps).final
 unfolding play
-plan_new_keys b h ps = (reachable_run (program_of_lem b) (well_formed b h) start ps (reachable_start (program_of_lem b) (well_formed b h))).unused
+plan_new_keys b h ps = (reachable_run (program_of b) (well_formed b h) start ps (reachable_start (program_of b) (well_formed b h))).unused
 
 -- demand 2 of every run of an accepted plan
 pub plan_executed : (b : List ℕ) → refusal b ≡ none → (ps : List ℕ)
-    → Executed (program_of_lem b) ps (outcome_of (program_of_lem b) (play (program_of_lem b) ps)) (log (play (program_of_lem b) ps))
-plan_executed b h ps = play_executed (program_of_lem b) (well_formed b h) ps
+    → Executed (program_of b) ps (outcome_of (program_of b) (play (program_of b) ps)) (log (play (program_of b) ps))
+plan_executed b h ps = play_executed (program_of b) (well_formed b h) ps

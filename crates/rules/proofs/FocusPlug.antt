@@ -6,7 +6,7 @@ use mathlib.Core.List.{List, [], ◌∷◌, ◌++◌, append-nil, append_assoc}
 use mathlib.Core.Option.{none, some-ne-none}
 use Rattle.plan_packed.specs.Syntax.{Expression, Condition, Arguments, literal, end, argument}
 use Rattle.rules.specs.Context.{Context, Contextᶜ, top, read, write₁, write₂, call, let_in, synch, hold, join, signal, equal₁, equal₂, literals, plug}
-use Rattle.rules.specs.Context.{plugᶜ, Redex, Redexᶜ, here, hereᶜ, focus, focusᶜ, focusᵃ, as_literal, as_bool_lem, redex_expression, redex_condition}
+use Rattle.rules.specs.Context.{plugᶜ, Redex, Redexᶜ, here, hereᶜ, focus, focusᶜ, focusᵃ, as_literal, as_bool, redex_expression, redex_condition}
 
 focus_args : (K : Context) (m : ℕ) (vs os : List ℕ) (es : Arguments) (e : Expression) → as_literal e ≡ none
     → focusᵃ K m vs (literals os (argument e es)) ≡ focus (call K m (vs ++ os) es) e
@@ -14,8 +14,8 @@ unfolding focus literals
 focus_args K m vs [] es e h = rw (append-nil, h)
 focus_args K m vs (o ∷ os) es e h = focus_args K m (vs ++ (o ∷ [])) os es e h ∙ ap (λ (l : List ℕ). focus (call K m l es) e) (append_assoc vs (o ∷ []) os)
 
-not_none : (c : Condition) → as_bool_lem c ≡ none → as_bool_lem (Condition.not c) ≡ none
-unfolding as_bool_lem
+not_none : (c : Condition) → as_bool c ≡ none → as_bool (Condition.not c) ≡ none
+unfolding as_bool
 not_none Condition.truth h = absurd (some-ne-none true h)
 not_none (Condition.not c) h = refl
 not_none (Condition.and c c') h = refl
@@ -39,7 +39,7 @@ mutual
   focus_plug (equal₁ K e') e h = focus_plugᶜ K (Condition.equal e e') refl ∙ rw h
   focus_plug (equal₂ K o) e h = focus_plugᶜ K (Condition.equal (literal o) e) refl ∙ rw h
 
-  pub focus_plugᶜ : (K : Contextᶜ) (c : Condition) → as_bool_lem c ≡ none → focus top (plugᶜ K c) ≡ focusᶜ K c
+  pub focus_plugᶜ : (K : Contextᶜ) (c : Condition) → as_bool c ≡ none → focus top (plugᶜ K c) ≡ focusᶜ K c
   focus_plugᶜ (Contextᶜ.if K e e') c h = focus_plug K (Expression.if c e e') refl ∙ rw h
   focus_plugᶜ (Contextᶜ.and K c') c h = focus_plugᶜ K (Condition.and c c') refl ∙ rw h
   focus_plugᶜ (Contextᶜ.not K) c h = focus_plugᶜ K (Condition.not c) (not_none c h) ∙ rw h
@@ -91,8 +91,8 @@ term_none (Redex.hold o v) = refl
 term_none (Redex.signal j o) = refl
 term_none (Redex.waiting o) = refl
 
-term_noneᶜ : (r : Redexᶜ) → as_bool_lem (redex_condition r) ≡ none
-unfolding as_bool_lem redex_condition
+term_noneᶜ : (r : Redexᶜ) → as_bool (redex_condition r) ≡ none
+unfolding as_bool redex_condition
 term_noneᶜ Redexᶜ.not_false = refl
 term_noneᶜ (Redexᶜ.and b c) = refl
 term_noneᶜ (Redexᶜ.equal o o') = refl

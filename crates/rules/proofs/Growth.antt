@@ -20,7 +20,7 @@ use Rattle.rules.specs.State.{enqueue, signalled}
 use Rattle.rules.specs.Rules.{Rule, passed_on, Converts, E-CALL, E-LET, E-IF, E-WHILE, E-NEW, E-READ, E-WRITE, E-READV, E-WRITEV, E-FORK, E-JOIN}
 use Rattle.rules.specs.Rules.{E-RE-ENTER, E-ACQUIRE, E-RELEASE, E-WAIT, E-WAKE, E-NOTIFY, E-NOTIFYALL, Convertsᶜ, E-NOTNOTTRUE, E-ANDTRUE, E-ANDFALSE}
 use Rattle.rules.specs.Rules.{E-EQUALTRUE, E-EQUALFALSE, Moves, EVAL, EVALᶜ}
-use Rattle.rules.specs.Run.{Run, stopped, after_pass, after_move, total_of_lem, totals_from}
+use Rattle.rules.specs.Run.{Run, stopped, after_pass, after_move, total_of, totals_from}
 use Rattle.rules.specs.Execution.{Execution, ends, passes, lacks_key_lem, no_room_lem, moves}
 use Rattle.rules.specs.Growth.{keys_of_thread, counts, larger, growth}
 use Rattle.rules.proofs.Relocated.{Relocated, was_there, enqueue_relocated, signalled_relocated}
@@ -30,7 +30,7 @@ use Rattle.rules.proofs.StateLaws.{change_same, change_other, changed, added}
 
 -- the total of thread p, and the size of its set
 abbrev total : State → ℕ → ℕ
-total s p = total_of_lem (get_elem? s.threads p)
+total s p = total_of (get_elem? s.threads p)
 
 -- a change that leaves what is read alone
 read_same : {A : Type 0} (F : Option Thread → A) (xs : List Thread) (i : ℕ) (h : Thread → Thread) (p : ℕ) → ((x : Thread) → F (some (h x)) ≡ F (some x))
@@ -43,16 +43,16 @@ read_same F (x ∷ xs) (suc i) h zero e = refl
 read_same F (x ∷ xs) (suc i) h (suc p) e = read_same F xs i h p e
 
 -- a thread that is made has learnt nothing
-made_none : (xs : List Thread) (y : Thread) (p : ℕ) → y.learnt ≡ 0 → total_of_lem (get_elem? (xs ++ (y ∷ [])) p) ≡ total_of_lem (get_elem? xs p)
-unfolding total_of_lem
+made_none : (xs : List Thread) (y : Thread) (p : ℕ) → y.learnt ≡ 0 → total_of (get_elem? (xs ++ (y ∷ [])) p) ≡ total_of (get_elem? xs p)
+unfolding total_of
 made_none [] y zero e = e
 made_none [] y (suc p) e = refl
 made_none (x ∷ xs) y zero e = refl
 made_none (x ∷ xs) y (suc p) e = made_none xs y p e
 
 -- a thread at another place has learnt as much
-relocated_total : (ts us : List Thread) → Relocated ts us → (p : ℕ) → total_of_lem (get_elem? us p) ≡ total_of_lem (get_elem? ts p)
-unfolding total_of_lem
+relocated_total : (ts us : List Thread) → Relocated ts us → (p : ℕ) → total_of (get_elem? us p) ≡ total_of (get_elem? ts p)
+unfolding total_of
 relocated_total [] [] r p = refl
 relocated_total [] (u ∷ us) r p = absurd r
 relocated_total (t ∷ ts) [] r p = absurd r
@@ -60,8 +60,8 @@ relocated_total (t ∷ ts) (u ∷ us) r zero = ap (λ (x : Thread). x.learnt) (s
 relocated_total (t ∷ ts) (u ∷ us) r (suc p) = relocated_total ts us r.1 p
 
 become_total : (s : State) (q : ℕ) (e : Expression) (p : ℕ) → total (become s q e) p ≡ total s p
-unfolding become total_of_lem
-become_total s q e p = read_same total_of_lem s.threads q _ p (λ x. refl)
+unfolding become total_of
+become_total s q e p = read_same total_of s.threads q _ p (λ x. refl)
 
 become_larger : (s s' : State) (q : ℕ) (e : Expression) (p : ℕ) → larger p s (become s' q e) ≡ larger p s s'
 unfolding become larger keys_of_thread
@@ -86,13 +86,13 @@ none_more n = omega arith
 module _ (g : Program) (s : State) (q : ℕ) (t : Thread) (ht : get_elem? s.threads q ≡ some t) (p : ℕ) where
   -- thread q learns a key of its own
   own : (s₁ : State) (W : Keys) → s₁.threads ≡ s.threads → total (learn s₁ q W) p ≡ total s p + 0
-  unfolding gain total_of_lem
+  unfolding gain total_of
   own s₁ W e =
-      read_same total_of_lem s₁.threads q _ p (λ x. sym (none_more x.learnt)) ∙ ap (λ (xs : List Thread). total_of_lem (get_elem? xs p)) e ∙ none_more (total s p)
+      read_same total_of s₁.threads q _ p (λ x. sym (none_more x.learnt)) ∙ ap (λ (xs : List Thread). total_of (get_elem? xs p)) e ∙ none_more (total s p)
 
   -- it hears of a set
   other : (s₁ : State) (W : Keys) → s₁.threads ≡ s.threads → total (hear s₁ q W) p ≡ total s p + cond (eqb q p) (larger p s (hear s₁ q W)) 0
-  unfolding gain total_of_lem larger keys_of_thread
+  unfolding gain total_of larger keys_of_thread
   other s₁ W e = go (ℕ_discrete q p)
     where
       at : get_elem? s₁.threads q ≡ some t
@@ -148,7 +148,7 @@ rises_move g s q p (EVALᶜ K ht he c) = become_total s q _ p ∙ rw (uncounted 
 
 -- A TOTAL IS THE GROWTH OF THE THREAD'S SET OVER THE MOVES THAT COUNT
 pub total_grows : {g : Program} {s : State} {ps : List ℕ} {r : Run} (p : ℕ) (x : Execution g s ps r)
-    → total_of_lem (get_elem? r.final.threads p) ≡ total_of_lem (get_elem? s.threads p) + growth p x
+    → total_of (get_elem? r.final.threads p) ≡ total_of (get_elem? s.threads p) + growth p x
 unfolding growth stopped after_pass after_move
 total_grows {s = s} p ends = none_more (total s p)
 total_grows p (passes h x) = total_grows p x
@@ -156,18 +156,18 @@ total_grows {s = s} p (lacks_key_lem h) = none_more (total s p)
 total_grows {s = s} p (no_room_lem h e) = none_more (total s p)
 total_grows {g} p (moves {s} {s'} {p = q} {R = R} h k x) = omega (arith, total_grows p x, rises_move g s q p h)
 
-start_total : (p : ℕ) → total_of_lem (get_elem? start.threads p) ≡ 0
-unfolding total_of_lem start
+start_total : (p : ℕ) → total_of (get_elem? start.threads p) ≡ 0
+unfolding total_of start
 start_total zero = refl
 start_total (suc p) = refl
 
 -- ---- the totals of an outcome
 
-total_at : (s : State) (p n i : ℕ) → i < n → get_elem? (totals_from s p n) i ≡ some (total_of_lem (get_elem? s.threads (p + i)))
+total_at : (s : State) (p n i : ℕ) → i < n → get_elem? (totals_from s p n) i ≡ some (total_of (get_elem? s.threads (p + i)))
 unfolding totals_from
 total_at s p zero i h = absurd (omega arith)
-total_at s p (suc n) zero h = ap (λ (q : ℕ). some (total_of_lem (get_elem? s.threads q))) (omega arith)
-total_at s p (suc n) (suc i) h = total_at s (suc p) n i (omega arith) ∙ ap (λ (q : ℕ). some (total_of_lem (get_elem? s.threads q))) (omega arith)
+total_at s p (suc n) zero h = ap (λ (q : ℕ). some (total_of (get_elem? s.threads q))) (omega arith)
+total_at s p (suc n) (suc i) h = total_at s (suc p) n i (omega arith) ∙ ap (λ (q : ℕ). some (total_of (get_elem? s.threads q))) (omega arith)
 
 pub eight_totals : (s : State) → length (totals_from s 0 8) ≡ 8
 unfolding totals_from
@@ -176,21 +176,21 @@ eight_totals s = refl
 pub listed_total : {g : Program} {ps : List ℕ} {r : Run} (x : Execution g start ps r) (p : ℕ) → p < 8
     → get_elem? (totals_from r.final 0 8) p ≡ some (growth p x)
 listed_total {r = r} x p h =
-    let e : total_of_lem (get_elem? r.final.threads p) ≡ growth p x = omega (arith, total_grows p x, start_total p) in
-    total_at r.final 0 8 p h ∙ ap (λ (q : ℕ). some (total_of_lem (get_elem? r.final.threads q))) (omega arith) ∙ ap {B = Option ℕ} some e
+    let e : total_of (get_elem? r.final.threads p) ≡ growth p x = omega (arith, total_grows p x, start_total p) in
+    total_at r.final 0 8 p h ∙ ap (λ (q : ℕ). some (total_of (get_elem? r.final.threads q))) (omega arith) ∙ ap {B = Option ℕ} some e
 
 -- ---- THE SAME KEYS AGAIN ADD 0
 
 again : (xs : List Thread) (q : ℕ) (W : Keys) (p : ℕ)
-    → total_of_lem (get_elem? (change_at (change_at xs q (heard_of W)) q (heard_of W)) p) ≡ total_of_lem (get_elem? (change_at xs q (heard_of W)) p)
-unfolding change_at total_of_lem
+    → total_of (get_elem? (change_at (change_at xs q (heard_of W)) q (heard_of W)) p) ≡ total_of (get_elem? (change_at xs q (heard_of W)) p)
+unfolding change_at total_of
 again [] q W p = refl
 again (x ∷ xs) zero W zero = ap (λ (n : ℕ). x.learnt + count_new W x.keys + n) (new_again W x.keys) ∙ sym (none_more (x.learnt + count_new W x.keys))
 again (x ∷ xs) zero W (suc p) = refl
 again (x ∷ xs) (suc q) W zero = refl
 again (x ∷ xs) (suc q) W (suc p) = again xs q W p
 
-pub heard_again : (s : State) (q : ℕ) (W : Keys) (p : ℕ) → total_of_lem (get_elem? (hear (hear s q W) q W).threads p) ≡ total_of_lem (get_elem? (hear s q W).threads p)
+pub heard_again : (s : State) (q : ℕ) (W : Keys) (p : ℕ) → total_of (get_elem? (hear (hear s q W) q W).threads p) ≡ total_of (get_elem? (hear s q W).threads p)
 unfolding gain
 heard_again s q W p = again s.threads q W p
 
@@ -200,11 +200,11 @@ abbrev pub Modest : State → Type 0
 Modest s = (p : ℕ) (t : Thread) → get_elem? s.threads p ≡ some t → t.learnt < size t.keys
 
 -- so it is at most 255
-pub modest_small : (s : State) → Modest s → (p : ℕ) → total_of_lem (get_elem? s.threads p) ≤ 255
-unfolding total_of_lem
+pub modest_small : (s : State) → Modest s → (p : ℕ) → total_of (get_elem? s.threads p) ≤ 255
+unfolding total_of
 modest_small s M p = go (get_elem? s.threads p) refl
   where
-    go : (x : Option Thread) → get_elem? s.threads p ≡ x → total_of_lem x ≤ 255
+    go : (x : Option Thread) → get_elem? s.threads p ≡ x → total_of x ≤ 255
     go none e = omega arith
     go (some t) e = omega (arith, M p t e, size_le t.keys)
 
@@ -212,7 +212,7 @@ modest_small s M p = go (get_elem? s.threads p) refl
 pub listed_small : (s : State) → Modest s → (p n i m : ℕ) → get_elem? (totals_from s p n) i ≡ some m → m ≤ 255
 unfolding totals_from
 listed_small s M p zero i m h = absurd (true≢false cc)
-listed_small s M p (suc n) zero m h = let e : total_of_lem (get_elem? s.threads p) ≡ m = cc in omega (arith, e, modest_small s M p)
+listed_small s M p (suc n) zero m h = let e : total_of (get_elem? s.threads p) ≡ m = cc in omega (arith, e, modest_small s M p)
 listed_small s M p (suc n) (suc i) m h = listed_small s M (suc p) n i m h
 
 -- a thread that keeps it, whatever else changes

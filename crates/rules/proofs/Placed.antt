@@ -10,12 +10,12 @@ use lib.ListN.{length, length-append}
 use Rattle.plan_packed.specs.Syntax.{Expression, Condition, Arguments, literal, end, argument, Program, bool}
 use Rattle.plan_packed.specs.Slots.{bound}
 use Rattle.rules.specs.Context.{Context, Contextᶜ, top, read, write₁, write₂, call, let_in, synch, hold, join, signal, equal₁, equal₂, literals, plug}
-use Rattle.rules.specs.Context.{plugᶜ, Redex, Redexᶜ, Focus, value, here, hereᶜ, focus, focusᶜ, focusᵃ, as_literal, as_bool_lem, redex_expression, on_literal}
+use Rattle.rules.specs.Context.{plugᶜ, Redex, Redexᶜ, Focus, value, here, hereᶜ, focus, focusᶜ, focusᵃ, as_literal, as_bool, redex_expression, on_literal}
 use Rattle.rules.specs.Context.{on_bool, on_not}
 use Rattle.plan_packed.proofs.WellFormed.{WellFormed, WellFormedᶜ, WellFormedᵃ, count, Callable, unbound}
 use Rattle.rules.proofs.Closing.{SlotsBelow}
 use Rattle.rules.proofs.FocusPlug.{focus_plug, focus_plugᶜ, found}
-use Rattle.rules.proofs.Back.{as_literal_lem, as_bool}
+use Rattle.rules.proofs.Back.{as_literal_lem, as_bool_lem}
 
 abbrev pub Text : Program → ℕ → Expression → Type 0
 Text g n e = WellFormed g n unbound e
@@ -164,8 +164,8 @@ module _ (g : Program) (n : ℕ) where
   abbrev Lands : List ℕ → Focus → Type 0
   Lands os F = Landed g n os F
 
-  land_not : (K : Contextᶜ) (c : Condition) (b : Bool) → c ≡ bool b → as_bool_lem (Condition.not c) ≡ none → Aroundᶜ g n K → Lands (pendingᶜ K) (on_not K b)
-  unfolding bool as_bool_lem
+  land_not : (K : Contextᶜ) (c : Condition) (b : Bool) → c ≡ bool b → as_bool (Condition.not c) ≡ none → Aroundᶜ g n K → Lands (pendingᶜ K) (on_not K b)
+  unfolding bool as_bool
   land_not K c true q h k = absurd (true≢false (cc (rw q at h)))
   land_not K c false q h k = record { good = (k, tt); theirs = refl; awake = λ o z. z }
 
@@ -173,7 +173,7 @@ module _ (g : Program) (n : ℕ) where
   counted m k k' e c = rw e at c
 
   mutual
-    unfolding focus as_literal as_bool_lem
+    unfolding focus as_literal as_bool
 
     pub land : (K : Context) (e : Expression) → as_literal e ≡ none → Around g n K → Text g n e → Lands (pending K) (focus K e)
     land K (Expression.literal o) h k c = absurd (true≢false cc)
@@ -192,7 +192,7 @@ module _ (g : Program) (n : ℕ) where
         land_lit (Lands (pending K)) (as_literal e) _ _ (λ o q. record { good = (k, (text_lit e o q c.0, c.1)); theirs = refl; awake = λ o z. z })
         (λ q. land (let_in K x e') e q (c.1, k) c.0)
     land K (Expression.if b e e') h k c =
-        land_bool (Lands (pending K)) (as_bool_lem b) _ _ (λ x q. record { good = (k, (c.1, c.2)); theirs = refl; awake = λ o z. z })
+        land_bool (Lands (pending K)) (as_bool b) _ _ (λ x q. record { good = (k, (c.1, c.2)); theirs = refl; awake = λ o z. z })
         (λ q. landᶜ (Contextᶜ.if K e e') b q (c.1, c.2, k) c.0)
     land K (Expression.while b e) h k c = record { good = (k, c); theirs = refl; awake = λ o z. z }
     land K (Expression.call m es) h k c = landᵃ K m [] es k (counted m (count es) (0 + count es) (omega arith) c.0) tt c.1
@@ -209,12 +209,12 @@ module _ (g : Program) (n : ℕ) where
         (λ q. land (signal K j) e q k c)
     land K (Expression.waiting o) h k c = absurd c
 
-    pub landᶜ : (K : Contextᶜ) (b : Condition) → as_bool_lem b ≡ none → Aroundᶜ g n K → Textᶜ g n b → Lands (pendingᶜ K) (focusᶜ K b)
+    pub landᶜ : (K : Contextᶜ) (b : Condition) → as_bool b ≡ none → Aroundᶜ g n K → Textᶜ g n b → Lands (pendingᶜ K) (focusᶜ K b)
     landᶜ K Condition.truth h k c = absurd (true≢false cc)
     landᶜ K (Condition.not b) h k c =
-        land_bool (Lands (pendingᶜ K)) (as_bool_lem b) _ _ (λ x q. land_not K b x (as_bool b x q) h k) (λ q. landᶜ (Contextᶜ.not K) b q k c)
+        land_bool (Lands (pendingᶜ K)) (as_bool b) _ _ (λ x q. land_not K b x (as_bool_lem b x q) h k) (λ q. landᶜ (Contextᶜ.not K) b q k c)
     landᶜ K (Condition.and b b') h k c =
-        land_bool (Lands (pendingᶜ K)) (as_bool_lem b) _ _ (λ x q. record { good = (k, c.1); theirs = refl; awake = λ o z. z })
+        land_bool (Lands (pendingᶜ K)) (as_bool b) _ _ (λ x q. record { good = (k, c.1); theirs = refl; awake = λ o z. z })
         (λ q. landᶜ (Contextᶜ.and K b') b q (c.1, k) c.0)
     landᶜ K (Condition.equal e e') h k c =
         land_lit (Lands (pendingᶜ K)) (as_literal e) _ _
@@ -248,12 +248,12 @@ module _ (g : Program) (n : ℕ) where
   risen : (K : Context) (e : Expression) → as_literal e ≡ none → Around g n K → Text g n e → Lands (pending K) (focus top (plug K e))
   risen K e h k c = rw (focus_plug K e h) (land K e h k c)
 
-  risenᶜ : (K : Contextᶜ) (b : Condition) → as_bool_lem b ≡ none → Aroundᶜ g n K → Textᶜ g n b → Lands (pendingᶜ K) (focus top (plugᶜ K b))
+  risenᶜ : (K : Contextᶜ) (b : Condition) → as_bool b ≡ none → Aroundᶜ g n K → Textᶜ g n b → Lands (pendingᶜ K) (focus top (plugᶜ K b))
   risenᶜ K b h k c = rw (focus_plugᶜ K b h) (landᶜ K b h k c)
 
   -- a value
   rise_lit : (K : Context) (v : ℕ) → v < n → Around g n K → Lands (pending K) (focus top (plug K (literal v)))
-  unfolding plug as_literal as_bool_lem focus redex_expression
+  unfolding plug as_literal as_bool focus redex_expression
   rise_lit top v h k = record { good = h; theirs = refl; awake = λ o z. z }
   rise_lit (read K f) v h k = risen K (Expression.read (literal v) f) refl k.2 (k.0, k.1, h)
   rise_lit (write₁ K f e') v h k = risen K (Expression.write (literal v) f e') refl k.3 (k.0, k.1, h, k.2)
@@ -277,7 +277,7 @@ module _ (g : Program) (n : ℕ) where
   bool_text false = tt
 
   rise_bool : (K : Contextᶜ) (b : Bool) → Aroundᶜ g n K → Lands (pendingᶜ K) (focus top (plugᶜ K (bool b)))
-  unfolding plug as_bool_lem as_literal bool
+  unfolding plug as_bool as_literal bool
   rise_bool (Contextᶜ.if K e e') b k = risen K (Expression.if (bool b) e e') refl k.2 (bool_text b, k.0, k.1)
   rise_bool (Contextᶜ.and K c) b k = risenᶜ K (Condition.and (bool b) c) refl k.1 (bool_text b, k.0)
   rise_bool (Contextᶜ.not K) true k = rise_bool K false k
@@ -291,8 +291,8 @@ module _ (g : Program) (n : ℕ) where
       go (some v) q = rw (as_literal_lem e v q) (rise_lit K v (text_lit e v q c) k)
 
   pub riseᶜ : (K : Contextᶜ) (b : Condition) → Aroundᶜ g n K → Textᶜ g n b → Landed g n (pendingᶜ K) (focus top (plugᶜ K b))
-  riseᶜ K b k c = go (as_bool_lem b) refl
+  riseᶜ K b k c = go (as_bool b) refl
     where
-      go : (a : Option Bool) → as_bool_lem b ≡ a → Landed g n (pendingᶜ K) (focus top (plugᶜ K b))
+      go : (a : Option Bool) → as_bool b ≡ a → Landed g n (pendingᶜ K) (focus top (plugᶜ K b))
       go none q = risenᶜ K b q k c
-      go (some v) q = rw (as_bool b v q) (rise_bool K v k)
+      go (some v) q = rw (as_bool_lem b v q) (rise_bool K v k)

@@ -14,7 +14,7 @@ use lib.ListN.{length, get_elem?}
 use Rattle.run_keys.specs.Keys.{is_empty}
 use Rattle.plan_packed.specs.Syntax.{Signal, Expression, Program, literal}
 use Rattle.plan_packed.specs.Check.{refusal}
-use Rattle.plan_packed.specs.Trees.{program_of_lem}
+use Rattle.plan_packed.specs.Trees.{program_of}
 use Rattle.plan_packed.proofs.WellFormed.{WellFormedProgram}
 use Rattle.plan_packed.proofs.Decoded.{well_formed}
 use Rattle.log_records.specs.Record.{Record}
@@ -432,4 +432,4 @@ module _ (g : Program) (P : WellFormedProgram g) {ps : List ℕ} {r : Run} (x : 
 
 -- of every run of an accepted plan
 pub plan_queueing : (b : List ℕ) (h : refusal b ≡ none) (ps : List ℕ) → Queueing (plan_executes b h ps)
-plan_queueing b h ps = queueing (program_of_lem b) (well_formed b h) (plan_executes b h ps)
+plan_queueing b h ps = queueing (program_of b) (well_formed b h) (plan_executes b h ps)

@@ -154,14 +154,14 @@ module _ (s : State) (o f : ℕ) (c : Cell) where
   abbrev put : Object → Object
   put x = record { monitor = x.monitor; fields = store_field x.fields f c }
 
-  put_in : (x : Option Object) (d : Cell) → field_of x f ≡ some d → field_of (map put x) f ≡ some c
+  put_in_lem : (x : Option Object) (d : Cell) → field_of x f ≡ some d → field_of (map put x) f ≡ some c
   unfolding field_of
-  put_in none d h = absurd (true≢false cc)
-  put_in (some x) d h = field_same x.fields f c d h
+  put_in_lem none d h = absurd (true≢false cc)
+  put_in_lem (some x) d h = field_same x.fields f c d h
 
   pub store_same : (d : Cell) → lookup s o f ≡ some d → lookup (store s o f c) o f ≡ some c
   unfolding lookup store
-  store_same d h = ap (λ (x : Option Object). field_of x f) (change_at_lem s.objects o put) ∙ put_in (get_elem? s.objects o) d h
+  store_same d h = ap (λ (x : Option Object). field_of x f) (change_at_lem s.objects o put) ∙ put_in_lem (get_elem? s.objects o) d h
 
   put_out : (x : Option Object) (k : ℕ) → (f ≡ k → ⊥) → field_of (map put x) k ≡ field_of x k
   unfolding field_of

@@ -158,12 +158,12 @@ false_when true = some false
 false_when false = none
 
 -- the value that a condition is: true, or `not true`
-unfoldable pub as_bool_lem : Condition → Option Bool
+unfoldable pub as_bool : Condition → Option Bool
 unfolding is_truth false_when
-as_bool_lem Condition.truth = some true
-as_bool_lem (Condition.not c) = false_when (is_truth c)
-as_bool_lem (Condition.and c c') = none
-as_bool_lem (Condition.equal e e') = none
+as_bool Condition.truth = some true
+as_bool (Condition.not c) = false_when (is_truth c)
+as_bool (Condition.and c c') = none
+as_bool (Condition.equal e e') = none
 
 -- where an expression moves next: it is a value, or a redex in a context
 pub data Focus : Type 0 where
@@ -188,7 +188,7 @@ on_not K false = hereᶜ K not_false
 
 -- the part of e that moves next, where e stands in K
 unfoldable mutual
-  unfolding as_literal as_bool_lem
+  unfolding as_literal as_bool
 
   pub focus : Context → Expression → Focus
   focus K (Expression.literal o) = value o
@@ -198,7 +198,7 @@ unfoldable mutual
   focus K (Expression.write e f e') =
       on_literal (as_literal e) (λ o. on_literal (as_literal e') (λ v. here K (write o f v)) (focus (write₂ K o f) e')) (focus (write₁ K f e') e)
   focus K (Expression.let_in x e e') = on_literal (as_literal e) (λ o. here K (let_in x o e')) (focus (let_in K x e') e)
-  focus K (Expression.if c e e') = on_bool (as_bool_lem c) (λ b. here K (if b e e')) (focusᶜ (if K e e') c)
+  focus K (Expression.if c e e') = on_bool (as_bool c) (λ b. here K (if b e e')) (focusᶜ (if K e e') c)
   focus K (Expression.while c e) = here K (while c e)
   focus K (Expression.call m es) = focusᵃ K m [] es
   focus K (Expression.fork e) = here K (fork e)
@@ -210,8 +210,8 @@ unfoldable mutual
 
   pub focusᶜ : Contextᶜ → Condition → Focus
   focusᶜ K Condition.truth = value 0  -- never asked, as in `on_not`
-  focusᶜ K (Condition.not c) = on_bool (as_bool_lem c) (λ b. on_not K b) (focusᶜ (not K) c)
-  focusᶜ K (Condition.and c c') = on_bool (as_bool_lem c) (λ b. hereᶜ K (and b c')) (focusᶜ (and K c') c)
+  focusᶜ K (Condition.not c) = on_bool (as_bool c) (λ b. on_not K b) (focusᶜ (not K) c)
+  focusᶜ K (Condition.and c c') = on_bool (as_bool c) (λ b. hereᶜ K (and b c')) (focusᶜ (and K c') c)
   focusᶜ K (Condition.equal e e') =
       on_literal (as_literal e) (λ o. on_literal (as_literal e') (λ o'. hereᶜ K (equal o o')) (focus (equal₂ K o) e')) (focus (equal₁ K e') e)
 

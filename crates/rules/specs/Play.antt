@@ -3,7 +3,7 @@ use Rattle.std.specs.Prelude.{ℕ, ◌*◌, Bool, List, [], ◌∷◌, ◌++◌,
 use Rattle.std.proofs.Math.Option.{Option, some, none}
 use Rattle.format.specs.Refusal.{Refusal, Check, check, check_whole, first_refusal}
 use Rattle.format.specs.Area.{overwrite}
-use Rattle.plan_packed.specs.Trees.{program_of_lem}
+use Rattle.plan_packed.specs.Trees.{program_of}
 use Rattle.plan_packed.specs.Check.{checks}
 use Rattle.log_records.specs.Packed.{bytes_of}
 use Rattle.rules.specs.Run.{Run, play, Outcome, outcome_of, log}
@@ -51,8 +51,8 @@ play_refusal plan schedule area = first_refusal (play_checks plan schedule area)
 
 -- the run of a schedule on an accepted plan
 unfoldable pub run_of : List ℕ → List ℕ → Run
-unfolding program_of_lem play
-run_of plan schedule = play (program_of_lem plan) schedule
+unfolding program_of play
+run_of plan schedule = play (program_of plan) schedule
 
 -- "A refused play has no run."
 pub data Played : Type 0 where
@@ -61,9 +61,9 @@ pub data Played : Type 0 where
 
 -- the answer, by the refusal
 unfoldable pub played_by : List ℕ → List ℕ → Option Refusal → Played
-unfolding run_of outcome_of program_of_lem
+unfolding run_of outcome_of program_of
 played_by plan schedule (some r) = refused r
-played_by plan schedule none = ran (outcome_of (program_of_lem plan) (run_of plan schedule))
+played_by plan schedule none = ran (outcome_of (program_of plan) (run_of plan schedule))
 
 -- the answer to a play
 unfoldable pub played : List ℕ → List ℕ → List ℕ → Played

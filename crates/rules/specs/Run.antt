@@ -122,15 +122,15 @@ module _ {F : Form} where
   statuses_by attempt s p (suc n) = status (attempt s p) ∷ statuses_by attempt s (suc p) n
 
   -- "The outcome gains one total per thread" (document 02, E6): 0 of a thread that is not there
-  unfoldable pub total_of_lem : Option (ThreadOf F) → ℕ
-  total_of_lem none = 0
-  total_of_lem (some t) = t.learnt
+  unfoldable pub total_of : Option (ThreadOf F) → ℕ
+  total_of none = 0
+  total_of (some t) = t.learnt
 
   -- the totals of n threads from thread p on
   unfoldable pub totals_from : StateOf F → ℕ → ℕ → List ℕ
-  unfolding total_of_lem
+  unfolding total_of
   totals_from s p zero = []
-  totals_from s p (suc n) = total_of_lem (get_elem? s.threads p) ∷ totals_from s (suc p) n
+  totals_from s p (suc n) = total_of (get_elem? s.threads p) ∷ totals_from s (suc p) n
 
 -- "The outcome holds: end, race, or no room (thread, object, key, depth); the picks dealt with before the end or stop; the moves made; the records
 -- written; and for each of 8 threads [..]"; "the answer also gives its length: for a run by the count of records"

@@ -6,7 +6,7 @@ ghost use Rattle.run_engine.specs.Inner.Kept.{turned_of, keep_of, restore_of, ke
 use run_keys::KeySet;
 use run_state::Cell;
 
-#[derive(Drop)]
+#[derive(Clone, Copy)]
 pub struct Kept {
     pub keys: KeySet,
     pub value: u32,

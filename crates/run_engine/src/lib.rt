@@ -77,7 +77,7 @@ pub fn thread_of(setting: Setting, met: Met) -> Thread
 }
 
 // What a run comes to that may go on behind the given picks, and how many picks it made, one that stopped it among them.
-#[derive(Drop)]
+#[derive(Clone, Copy)]
 pub struct Explored {
     pub ran: Ran,
     pub made: usize,

@@ -4,7 +4,7 @@ ghost use Rattle.run_frames.specs.Inner.Frames.{code_of, kind_of, framed, let_fr
 
 use run_term_words::slots;
 
-#[derive(Drop)]
+#[derive(Clone, Copy)]
 pub enum Kind {
     Read,
     Write1,
@@ -39,7 +39,7 @@ pub enum Kind {
 //   Test, Body          first and second: the condition and the body of a loop
 //   Join, Not           nothing
 //   Signal              member: which signal, 0 wait, 1 notify, 2 notify all
-#[derive(Drop)]
+#[derive(Clone, Copy)]
 pub struct Frame {
     pub first: usize,
     pub second: usize,
@@ -51,7 +51,7 @@ pub struct Frame {
 }
 
 // The three numbers of a frame.
-#[derive(Drop)]
+#[derive(Clone, Copy)]
 pub struct Packed {
     pub top: usize,
     pub environment: usize,

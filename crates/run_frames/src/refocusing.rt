@@ -19,7 +19,7 @@ use run_term_words::slots;
 //   SIGNAL                      first: the object; second: which signal, 0 wait, 1 notify, 2 notify all
 //   WAITING                     first: the object
 //   NO_RULE                     nothing
-#[derive(Drop)]
+#[derive(Clone, Copy)]
 pub struct Ready {
     pub redex: usize,
     pub first: usize,
@@ -29,7 +29,7 @@ pub struct Ready {
 }
 
 // Refocusing goes down from an expression or a condition, wants an operand for a frame, goes through a call's list, carries a value up, or has ended.
-#[derive(Drop)]
+#[derive(Clone, Copy)]
 pub enum Stage {
     Full,
     At,
@@ -44,7 +44,7 @@ pub enum Stage {
 
 // A stage with its numbers: `operand` is a term or a value; the slots of a way down are the frame's. Where refocusing has ended, the frame's numbers are
 // the redex's.
-#[derive(Drop)]
+#[derive(Clone, Copy)]
 pub struct Refocusing {
     pub operand: usize,
     pub frame: Frame,

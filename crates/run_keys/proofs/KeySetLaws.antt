@@ -15,7 +15,7 @@ use borrow.Author.Tests.{ne_eqb}
 use Rattle.run_keys.specs.declared.KeySet.{KeySet}
 use Rattle.run_keys.specs.declared.Joined.{Joined}
 use Rattle.run_keys.specs.Keys.{Keys, empty, singleton, holds, union, is_empty, count_below, count_new}
-use Rattle.run_keys.specs.Inner.KeySet.{keys_of, word_of, words, of_words, empty_set, zero_set, holds_of, learn_of, join_of_lem, new_in, new_of, joined_of, is_empty_of}
+use Rattle.run_keys.specs.Inner.KeySet.{keys_of, word_of, words, of_words, empty_set, zero_set, holds_of, learn_of, join_of, new_in, new_of, joined_of, is_empty_of}
 use Rattle.run_keys.specs.Inner.KeySet.{Made}
 use Rattle.run_keys.specs.Inner.KeySet.{Joins, Told}
 use Rattle.run_keys.proofs.CountLaws.{count_same, count_split, count_le, ones_new}
@@ -35,8 +35,8 @@ pub joined_words : (s t : KeySet) (a b c d : ℕ) → a ≡ new_in t.w0 s.w0 →
       keys = record { w0 = bit_or s.w0 t.w0; w1 = bit_or s.w1 t.w1; w2 = bit_or s.w2 t.w2; w3 = bit_or s.w3 t.w3 };
       new = a + b + c + d;
     }) (joined_of s t)
-unfolding join_of_lem new_of
-joined_words s t a b c d e f g h = ap (λ (n : ℕ). record { keys = join_of_lem s t; new = n }) (sum (sum (sum e f) g) h)
+unfolding join_of new_of
+joined_words s t a b c d e f g h = ap (λ (n : ℕ). record { keys = join_of s t; new = n }) (sum (sum (sum e f) g) h)
   where
     sum : {x x' y y' : ℕ} → x ≡ x' → y ≡ y' → x + y ≡ x' + y'
     sum p q = ap₂ (λ (x y : ℕ). x + y) p q
@@ -126,8 +126,8 @@ from1 s = over (over s.w3 s.w2) s.w1
 abbrev from2 : KeySet → ℕ
 from2 s = over s.w3 s.w2
 
-pub keys_join : {s t : KeySet} → Fits s → Fits t → keys_of (join_of_lem s t) ≡ union (keys_of s) (keys_of t)
-unfolding keys_of join_of_lem
+pub keys_join : {s t : KeySet} → Fits s → Fits t → keys_of (join_of s t) ≡ union (keys_of s) (keys_of t)
+unfolding keys_of join_of
 keys_join {s} {t} p q =
     sym
     (union_split 64 (from1 s) s.w0 (from1 t) t.w0 p.w0 q.w0
@@ -252,8 +252,8 @@ union_lt : (a b : ℕ) → a < 2 ^ 64 → b < 2 ^ 64 → union a b < 2 ^ 64
 unfolding union
 union_lt a b p q = or_lt 64 a b p q
 
-pub fits_join : {s t : KeySet} → Fits s → Fits t → Fits (join_of_lem s t)
-unfolding join_of_lem
+pub fits_join : {s t : KeySet} → Fits s → Fits t → Fits (join_of s t)
+unfolding join_of
 fits_join {s} {t} p q =
     record {
       w0 = union_lt s.w0 t.w0 p.w0 q.w0;

@@ -5,7 +5,7 @@ ghost use Rattle.run_keys.specs.Keys.{empty, singleton, holds, union, is_empty};
 ghost use Rattle.run_keys.specs.Inner.KeySet.{keys_of, word_of, empty_set, zero_set, holds_of, learn_of, new_in, is_empty_of, Made, Joins, Told};
 
 // Key k is in the set where bit k % 64 of word k / 64 is 1.
-#[derive(Drop)]
+#[derive(Clone, Copy)]
 pub struct KeySet {
     pub w0: u64,
     pub w1: u64,
@@ -14,7 +14,7 @@ pub struct KeySet {
 }
 
 // The keys of both sets, and how many of them the first did not hold.
-#[derive(Drop)]
+#[derive(Clone, Copy)]
 pub struct Joined {
     pub keys: KeySet,
     pub new: u32,

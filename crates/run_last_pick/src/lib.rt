@@ -6,7 +6,7 @@ ghost use Rattle.run_last_pick.specs.Inner.LastPick.{record_in, last_pick, LastG
 use run_outcome::{NoRoom, Outcome, Stop, ThreadState};
 
 // The three bytes of a record, as a log has them.
-#[derive(Drop)]
+#[derive(Clone, Copy)]
 pub struct RecordBytes {
     pub high: u8,
     pub middle: u8,
@@ -14,7 +14,7 @@ pub struct RecordBytes {
 }
 
 // What a preview answers.
-#[derive(Drop)]
+#[derive(Clone, Copy)]
 pub enum Previewed {
     // It is refused: document 01's number and place, where the pick counts as the schedule's last.
     Refused { number: usize, place: usize },

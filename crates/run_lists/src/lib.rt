@@ -13,7 +13,7 @@ const COUNT: usize = 281474976710656;
 const LIST: usize = 4503599627370496;
 
 // What comes next in a list.
-#[derive(Drop)]
+#[derive(Clone, Copy)]
 pub struct Item {
     pub code: usize,
     pub rest: usize,

@@ -11,7 +11,7 @@ use run_state::{Cell, Head, Object, Setting};
 
 // Why a present thread's pick is passed over: it has finished; waits for a monitor, for a join or to be notified; is stuck for a field, for a thread, for
 // a monitor that it does not hold or for a rule.
-#[derive(Drop)]
+#[derive(Clone, Copy)]
 pub enum Block {
     Finished,
     Monitor,
@@ -25,7 +25,7 @@ pub enum Block {
 
 // What a pick meets: a thread that can move, one that lacks a key, or one that is blocked. Of two bytes, and apart from the numbers that a state names,
 // so that it costs a pick nothing to be told.
-#[derive(Drop)]
+#[derive(Clone, Copy)]
 pub enum Sight {
     Ready,
     Lacking,

@@ -3,7 +3,7 @@
 #![tactic(auto)]
 
 // No room for a thread, an object, a key or a depth.
-#[derive(Drop)]
+#[derive(Clone, Copy)]
 pub enum NoRoom {
     Thread,
     Object,
@@ -11,7 +11,7 @@ pub enum NoRoom {
     Depth,
 }
 
-#[derive(Drop)]
+#[derive(Clone, Copy)]
 pub enum Stop {
     End,
     Race,
@@ -20,7 +20,7 @@ pub enum Stop {
 
 // What a waiting thread waits for: a monitor that another thread holds; the end of a thread, named by its object; or, after a wait on an object, until it
 // is notified.
-#[derive(Drop)]
+#[derive(Clone, Copy)]
 pub enum Wait {
     Monitor { object: usize },
     Join { object: usize },
@@ -29,7 +29,7 @@ pub enum Wait {
 
 // Why a thread is stuck: the object has no such field, or is no thread, or its monitor is not held by the mover; or no rule is for its part, to which no
 // accepted plan comes.
-#[derive(Drop)]
+#[derive(Clone, Copy)]
 pub enum Stuck {
     Field { object: usize, field: usize },
     Thread { object: usize },
@@ -37,7 +37,7 @@ pub enum Stuck {
     NoRule,
 }
 
-#[derive(Drop)]
+#[derive(Clone, Copy)]
 pub enum ThreadState {
     Absent,
     Finished { value: usize },
@@ -48,13 +48,13 @@ pub enum ThreadState {
 }
 
 // One of the eight threads: its state, and how many keys that were new to it its acquires, volatile reads and joins brought.
-#[derive(Drop)]
+#[derive(Clone, Copy)]
 pub struct Thread {
     pub state: ThreadState,
     pub learnt: u8,
 }
 
-#[derive(Drop)]
+#[derive(Clone, Copy)]
 pub struct Outcome {
     pub stop: Stop,
     pub picks: usize,

@@ -11,7 +11,7 @@ use Rattle.run_state.specs.declared.Head.{Head}
 use Rattle.run_state.specs.declared.acted.Acted.{Acted}
 use Rattle.run_pick.specs.declared.Met.{Met}
 use Rattle.run_pick.specs.Inner.Answer.{PickAnswer, PickAnswer as answer}
-use Rattle.run_pick.specs.Inner.Pick.{picked, no_room, no_head, full_of, forks_of, forked_of, move_of_lem, refocus_forked, forked_way, start_by, refocus_by}
+use Rattle.run_pick.specs.Inner.Pick.{picked, no_room, no_head, full_of, forks_of, forked_of, move_of, refocus_forked, forked_way, start_by, refocus_by}
 
 module _ (x : Met) (a : Acted) (ws rs : List ℕ) (m : Ended) where
   -- where the mover has refocused at m: without room; of a fork, with a forked thread that has no room or has refocused; of another move
@@ -26,12 +26,12 @@ module _ (x : Met) (a : Acted) (ws rs : List ℕ) (m : Ended) where
 
   by_forked : full_of m.refocused ≡ false → forks_of x.head ≡ true → full_of (refocus_forked ws rs x m.stack).refocused ≡ false
       → refocus_by ws rs x a m ≡ picked (refocus_forked ws rs x m.stack).stack
-      (answer.Moved (move_of_lem x a m.refocused (forked_of x (refocus_forked ws rs x m.stack).refocused) true))
+      (answer.Moved (move_of x a m.refocused (forked_of x (refocus_forked ws rs x m.stack).refocused) true))
   unfolding refocus_by start_by
   by_forked d f y = rw (d, f, y)
 
   by_mover : full_of m.refocused ≡ false → forks_of x.head ≡ false
-      → refocus_by ws rs x a m ≡ picked m.stack (answer.Moved (move_of_lem x a m.refocused no_head false))
+      → refocus_by ws rs x a m ≡ picked m.stack (answer.Moved (move_of x a m.refocused no_head false))
   unfolding refocus_by
   by_mover d f = rw (d, f)
 
@@ -54,22 +54,22 @@ module _ (x : Met) (a : Acted) (ws rs : List ℕ) (m : Ended) where
 
     -- a fork whose forked thread has refocused
     pub refocus_forked_lem : (h : Head) → full_of e.refocusings.last ≡ false → forks_of x.head ≡ true
-        → z ≡ answer.Moved (move_of_lem x a e.refocusings.before h true) → h ≡ forked_of x e.refocusings.last → picked e.stack z ≡ refocus_by ws rs x a m
+        → z ≡ answer.Moved (move_of x a e.refocusings.before h true) → h ≡ forked_of x e.refocusings.last → picked e.stack z ≡ refocus_by ws rs x a m
     refocus_forked_lem h n f k j = by (full_of m.refocused) refl
       where
         by : (d : Bool) → full_of m.refocused ≡ d → picked e.stack z ≡ refocus_by ws rs x a m
         by true ed = let r = lasts (q ∙ last_full ws rs (forked_way x.counts x.head) b m (forks_of x.head) ed) n in cc (r, ed)
         by false ed =
             let s = q ∙ both ws rs (forked_way x.counts x.head) b m (forks_of x.head) f ed in
-            ap (picked e.stack) (k ∙ ap (λ (h : Head). answer.Moved (move_of_lem x a e.refocusings.before h true)) j)
-            ∙ ap (λ (e : Ends). picked e.stack (answer.Moved (move_of_lem x a e.refocusings.before (forked_of x e.refocusings.last) true))) s
+            ap (picked e.stack) (k ∙ ap (λ (h : Head). answer.Moved (move_of x a e.refocusings.before h true)) j)
+            ∙ ap (λ (e : Ends). picked e.stack (answer.Moved (move_of x a e.refocusings.before (forked_of x e.refocusings.last) true))) s
             ∙ sym (by_forked ed f (lasts s n))
 
     -- another move
     pub refocus_moved : (h : Head) → full_of e.refocusings.last ≡ false → forks_of x.head ≡ false
-        → z ≡ answer.Moved (move_of_lem x a e.refocusings.last h false) → h ≡ no_head → picked e.stack z ≡ refocus_by ws rs x a m
+        → z ≡ answer.Moved (move_of x a e.refocusings.last h false) → h ≡ no_head → picked e.stack z ≡ refocus_by ws rs x a m
     refocus_moved h n f k j =
         let s = q ∙ last ws rs (forked_way x.counts x.head) b m (forks_of x.head) f in
-        ap (picked e.stack) (k ∙ ap (λ (h : Head). answer.Moved (move_of_lem x a e.refocusings.last h false)) j)
-        ∙ ap (λ (e : Ends). picked e.stack (answer.Moved (move_of_lem x a e.refocusings.last no_head false))) s
+        ap (picked e.stack) (k ∙ ap (λ (h : Head). answer.Moved (move_of x a e.refocusings.last h false)) j)
+        ∙ ap (λ (e : Ends). picked e.stack (answer.Moved (move_of x a e.refocusings.last no_head false))) s
         ∙ sym (by_mover (lasts s n) f)

@@ -26,7 +26,7 @@ use Rattle.run_pick.specs.declared.Met.{Met}
 use Rattle.run_pick.specs.declared.Begun.{Begun}
 use Rattle.run_pick.specs.declared.Begun.TheVariants as begun
 use Rattle.run_pick.specs.Inner.Answer.{Move, PickAnswer, PickAnswer as answer}
-use Rattle.run_pick.specs.Inner.Pick.{Picked, picked, no_room, no_head, full_of, forks_of, forked_of, move_of_lem, refocus_mover, refocus_by, make_by, act_met, pick_by}
+use Rattle.run_pick.specs.Inner.Pick.{Picked, picked, no_room, no_head, full_of, forks_of, forked_of, move_of, refocus_mover, refocus_by, make_by, act_met, pick_by}
 use Rattle.run_pick.specs.Inner.Pick.{look_met, pick_of}
 use Rattle.run_pick.specs.Inner.Pick.{begun_by, begin_by, begin_of, go_of, refocusings_from}
 use Rattle.run_pick.proofs.Answers.{refocus_full, refocus_forked_lem, refocus_moved}
@@ -92,20 +92,20 @@ module _ (ws rs : List ℕ) (g : Setting) (x : Met) (k : Stack) where
     full_by_lem (begun.Acted a) q o f = refocus_full x a ws rs _ _ (no_room room.Depth) q f refl
 
     moves_by : (a : Acted) → Refocuses a.go → full_of e.refocusings.last ≡ false → forks_of x.head ≡ false
-        → picked e.stack (answer.Moved (move_of_lem x a e.refocusings.last no_head false)) ≡ refocus_by ws rs x a (refocus_mover ws rs x a k)
-    moves_by a q f n = refocus_moved x a ws rs _ _ (answer.Moved (move_of_lem x a e.refocusings.last no_head false)) q no_head f n refl refl
+        → picked e.stack (answer.Moved (move_of x a e.refocusings.last no_head false)) ≡ refocus_by ws rs x a (refocus_mover ws rs x a k)
+    moves_by a q f n = refocus_moved x a ws rs _ _ (answer.Moved (move_of x a e.refocusings.last no_head false)) q no_head f n refl refl
 
     forks_by : (a : Acted) → Refocuses a.go → full_of e.refocusings.last ≡ false → forks_of x.head ≡ true
-        → picked e.stack (answer.Moved (move_of_lem x a e.refocusings.before (forked_of x e.refocusings.last) true))
+        → picked e.stack (answer.Moved (move_of x a e.refocusings.before (forked_of x e.refocusings.last) true))
         ≡ refocus_by ws rs x a (refocus_mover ws rs x a k)
     forks_by a q f n =
-        refocus_forked_lem x a ws rs _ _ (answer.Moved (move_of_lem x a e.refocusings.before (forked_of x e.refocusings.last) true)) q
+        refocus_forked_lem x a ws rs _ _ (answer.Moved (move_of x a e.refocusings.before (forked_of x e.refocusings.last) true)) q
         (forked_of x e.refocusings.last) f n refl refl
 
     -- one that only goes on elsewhere
     goes_by : (b : Begun) → b ≡ begin_of g x → Refocuses (go_of b) → OneOf (2 ∷ 3 ∷ []) (tag_of begun-type.the_type b)
         → OneOf (0 ∷ 1 ∷ 2 ∷ []) (tag_of begun-type.the_type b) → full_of e.refocusings.last ≡ false
-        → (goes_on_by x.head.ready.redex ≡ true) × (picked e.stack (answer.Moved (move_of_lem x (gone_on x go_full) e.refocusings.last no_head false))
+        → (goes_on_by x.head.ready.redex ≡ true) × (picked e.stack (answer.Moved (move_of x (gone_on x go_full) e.refocusings.last no_head false))
         ≡ answer_by b)
     goes_by begun.Passed begins q m o f = absurd (miss (2 ∷ 3 ∷ []) 0 tt m)
     goes_by (begun.Stopped s y) begins q m o f = absurd (miss (2 ∷ 3 ∷ []) 1 tt m)
@@ -131,16 +131,16 @@ module _ (ws rs : List ℕ) (g : Setting) (x : Met) (k : Stack) where
           acted = refocuses ∙ ap (λ (b : Begun). refocusings_from ws rs x.counts x.head x.thread (go_of b) k) acts
 
           pub moves : forks_of x.head ≡ false
-              → picked e.stack (answer.Moved (move_of_lem x a e.refocusings.last no_head false)) ≡ pick_of ws rs g x k
+              → picked e.stack (answer.Moved (move_of x a e.refocusings.last no_head false)) ≡ pick_of ws rs g x k
           moves n = answers b begins (moves_by e a acted room n ∙ ap (λ (b : Begun). answer_by b) (sym acts))
 
           pub forks : forks_of x.head ≡ true
-              → picked e.stack (answer.Moved (move_of_lem x a e.refocusings.before (forked_of x e.refocusings.last) true)) ≡ pick_of ws rs g x k
+              → picked e.stack (answer.Moved (move_of x a e.refocusings.before (forked_of x e.refocusings.last) true)) ≡ pick_of ws rs g x k
           forks n = answers b begins (forks_by e a acted room n ∙ ap (λ (b : Begun). answer_by b) (sym acts))
 
         module _ (mover : OneOf (2 ∷ 3 ∷ []) (tag_of begun-type.the_type b)) (other : OneOf (0 ∷ 1 ∷ 2 ∷ []) (tag_of begun-type.the_type b)) where
           pub on : goes_on_by x.head.ready.redex ≡ true
           on = (goes_by e b begins refocuses mover other room).0
 
-          pub goes_on_lem : picked e.stack (answer.Moved (move_of_lem x (gone_on x go_full) e.refocusings.last no_head false)) ≡ pick_of ws rs g x k
+          pub goes_on_lem : picked e.stack (answer.Moved (move_of x (gone_on x go_full) e.refocusings.last no_head false)) ≡ pick_of ws rs g x k
           goes_on_lem = answers b begins (goes_by e b begins refocuses mover other room).1

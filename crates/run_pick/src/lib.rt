@@ -23,7 +23,7 @@ use run_state::{Cell, Counts, Entry, Head, Object, Setting, acted};
 
 // What a pick meets: the counts, the thread's head, the cell and the object that its redex is about, the head of the thread that the object stands for,
 // the thread's number, and its place in a queue.
-#[derive(Drop)]
+#[derive(Clone, Copy)]
 pub struct Met {
     pub counts: Counts,
     pub head: Head,
@@ -35,7 +35,7 @@ pub struct Met {
 }
 
 // How a pick begins: it is passed over, stops the run with a last record, is a move that only goes on elsewhere, or another move.
-#[derive(Drop)]
+#[derive(Clone, Copy)]
 pub enum Begun {
     Passed,
     Stopped { stop: Stop, entry: Entry },

@@ -6,7 +6,7 @@ ghost use Rattle.run_place_notes.specs.Inner.Notes.{NoteOf, Puts, PutNoted, Last
 use run_outcome::Thread;
 
 // Where the following schedule leaves a given one, and its pick there.
-#[derive(Drop)]
+#[derive(Clone, Copy)]
 pub enum Departure {
     At { place: usize, pick: usize },
     Over,

@@ -10,7 +10,7 @@ use run_frames::refocusing::{Ready, Refocusing, Stage};
 use run_frames::{frame, refocusing};
 
 // The redex if refocusing found one, how deep it ended, and at which stage.
-#[derive(Drop)]
+#[derive(Clone, Copy)]
 pub struct Refocused {
     pub ready: Ready,
     pub depth: usize,
@@ -18,7 +18,7 @@ pub struct Refocused {
 }
 
 // Where a refocusing starts: the place of the thread's first frame, how deep it stands, and its stage.
-#[derive(Drop)]
+#[derive(Clone, Copy)]
 pub struct Way {
     pub base: usize,
     pub depth: usize,
@@ -26,7 +26,7 @@ pub struct Way {
 }
 
 // The last of one or two refocusings, and the one before it, if there are two.
-#[derive(Drop)]
+#[derive(Clone, Copy)]
 pub struct Refocusings {
     pub before: Refocused,
     pub last: Refocused,

@@ -15,13 +15,13 @@ use Rattle.run_lists.proofs.Coded.{bound_above, next_valued, next_none, ended_no
 use Rattle.run_refocusing_step.specs.declared.Gathered.{Gathered}
 use Rattle.run_refocusing_step.specs.declared.Through.{Through}
 use Rattle.run_refocusing_step.specs.Inner.Ahead.{next_of, next_in, taken_of, gathered_of, called_of}
-use Rattle.run_refocusing_step.specs.Inner.Down.{call_of_lem, list_by, list_of}
+use Rattle.run_refocusing_step.specs.Inner.Down.{call_of, list_by, list_of}
 use Rattle.run_refocusing_step.proofs.Gathers.{takes, stops}
 
 module _ (ws rs : List ℕ) where
   -- a call's list that is over
   pub over : (n : ℕ) (f : Frame) → 0 < n → eqb (tag_of (word_at ws f.first)) 16 ≡ false
-      → called_of ws rs n f ≡ record { left = n; go = call_of_lem rs f f.arguments }
+      → called_of ws rs n f ≡ record { left = n; go = call_of rs f f.arguments }
   unfolding next_of list_of list_by
   over n f h e =
       let z : next_in ws f ≡ 32 = rw e in
@@ -32,7 +32,7 @@ module _ (ws rs : List ℕ) where
   abbrev told : ℕ → ℕ → ℕ → Frame → Through
   told k x n f = record {
     left = n - count_from k ws f.first;
-    go = call_of_lem rs f (f.arguments + values_of k f.environment (codes_from k ws f.first x) * 2 ^ (f.count * 5));
+    go = call_of rs f (f.arguments + values_of k f.environment (codes_from k ws f.first x) * 2 ^ (f.count * 5));
   }
 
   -- those conditions, under which they are all of the list

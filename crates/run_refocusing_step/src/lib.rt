@@ -13,7 +13,7 @@ use run_frames::{frame, redex, refocusing};
 use run_term_words::{slots, words};
 
 // One step: how deep refocusing then is, a frame for place `at`, and where refocusing stands.
-#[derive(Drop)]
+#[derive(Clone, Copy)]
 pub struct Turn {
     pub depth: usize,
     pub at: usize,
@@ -22,21 +22,21 @@ pub struct Turn {
 }
 
 // A call's frame after the values that came next in its list, and how many steps are left.
-#[derive(Drop)]
+#[derive(Clone, Copy)]
 pub struct Gathered {
     pub left: usize,
     pub frame: Frame,
 }
 
 // Where refocusing stands once it is through a call's list, and how many steps are left.
-#[derive(Drop)]
+#[derive(Clone, Copy)]
 pub struct Through {
     pub left: usize,
     pub go: Refocusing,
 }
 
 // A step, and how many are left with it.
-#[derive(Drop)]
+#[derive(Clone, Copy)]
 pub struct Stepped {
     pub left: usize,
     pub turn: Turn,

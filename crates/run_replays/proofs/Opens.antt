@@ -6,7 +6,7 @@ use mathlib.Core.List.{List}
 use mathlib.Core.Option.{Option, some, none}
 use lib.ListN.{get_or}
 use Rattle.plan_packed.specs.Syntax.{Program}
-use Rattle.plan_packed.specs.Trees.{program_of_lem}
+use Rattle.plan_packed.specs.Trees.{program_of}
 use Rattle.rules.specs.State.{State}
 use Rattle.rules.specs.Step.{Move, AttemptOf, Attempt, attempt}
 use Rattle.rules.specs.Room.{Room, no_room_for, within_room, answer, step}
@@ -68,7 +68,7 @@ goes_on_lem (stop.NoRoom k) = refl
 
 module _ (plan picks : List ℕ) (o : Outcome) (h : OutcomeOf plan picks o) where
   abbrev g : Program
-  g = program_of_lem plan
+  g = program_of plan
 
   pub stop_is : stop_of o.stop ≡ (play g picks).stop
   unfolding outcome_of run.outcome_of run_of

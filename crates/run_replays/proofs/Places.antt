@@ -7,7 +7,7 @@ use mathlib.Core.Bool.{false}
 use mathlib.Core.List.{List}
 use lib.ListN.{length, get_or, take}
 use Rattle.plan_packed.specs.Syntax.{Program}
-use Rattle.plan_packed.specs.Trees.{program_of_lem}
+use Rattle.plan_packed.specs.Trees.{program_of}
 use Rattle.run_open_threads.specs.Inner.Open.{open_after, LowestFrom}
 use Rattle.run_engine.specs.declared.Explored.{Explored}
 use Rattle.run_engine.specs.Inner.Exploring.{all_picks}
@@ -20,7 +20,7 @@ use Rattle.run_replays.proofs.Opens.{can_is, lowest_follows}
 module _ {plan picks log log' before after : List ℕ} {r : Explored} (x : ExploredBy false plan picks log log' before after r)
     (room : length picks ≤ length before) where
   abbrev g : Program
-  g = program_of_lem plan
+  g = program_of plan
 
   abbrev ps : List ℕ
   ps = all_picks picks after

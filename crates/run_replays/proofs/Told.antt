@@ -11,7 +11,7 @@ use lib.ListN.{length, length-append, get_or, take, get_or-append}
 use lib.Seq.{take-append_seam, take-append-le}
 use borrow.Author.Tests.{eq-eqb, ne_eqb}
 use Rattle.plan_packed.specs.Syntax.{Program}
-use Rattle.plan_packed.specs.Trees.{program_of_lem}
+use Rattle.plan_packed.specs.Trees.{program_of}
 use Rattle.rules.specs.Run as run
 use Rattle.rules.specs.Run.{play, instances}
 use Rattle.rules.specs.Play.{run_of}
@@ -43,22 +43,22 @@ stop_counts stop.Race = refl
 stop_counts (stop.NoRoom k) = refl
 
 module _ (plan picks : List ℕ) (o : Outcome) (h : OutcomeOf plan picks o) where
-  moves_are : o.moves ≡ length (instances (play (program_of_lem plan) picks))
+  moves_are : o.moves ≡ length (instances (play (program_of plan) picks))
   unfolding outcome_of run.outcome_of run_of
   moves_are = ap (λ (x : run.Outcome). x.moves) h
 
-  pub counts_are : o.moves + stop_count o.stop ≡ counted (play (program_of_lem plan) picks)
+  pub counts_are : o.moves + stop_count o.stop ≡ counted (play (program_of plan) picks)
   counts_are =
-      let e : stop_count o.stop ≡ stops (play (program_of_lem plan) picks).stop = stop_counts o.stop ∙ ap stops (stop_is plan picks o h) in
+      let e : stop_count o.stop ≡ stops (play (program_of plan) picks).stop = stop_counts o.stop ∙ ap stops (stop_is plan picks o h) in
       omega (arith, moves_are, e)
 
   pub few_counts : o.moves + stop_count o.stop ≤ length picks
-  few_counts = omega (arith, counts_are, counts_few (program_of_lem plan) picks)
+  few_counts = omega (arith, counts_are, counts_few (program_of plan) picks)
 
 -- ---- a run goes past the given picks where each of them can follow
 
 module _ {plan picks before after : List ℕ} {r : Explored} (x : Explores plan picks before after r) where
-  pub goes_past : length picks ≤ length before → Way (can_follow (program_of_lem plan)) picks → length picks ≤ r.made
+  pub goes_past : length picks ≤ length before → Way (can_follow (program_of plan)) picks → length picks ≤ r.made
   goes_past room w = by (dec_lt r.made (length picks))
     where
       by : Dec (r.made < length picks) → length picks ≤ r.made
@@ -67,7 +67,7 @@ module _ {plan picks before after : List ℕ} {r : Explored} (x : Explores plan 
           absurd
           (true≢false
           (sym (w.follows r.made h)
-          ∙ ap (λ (l : List ℕ). can_follow (program_of_lem plan) l (get_or picks r.made 0)) (sym (take-append-le r.made picks _ (omega arith)))
+          ∙ ap (λ (l : List ℕ). can_follow (program_of plan) l (get_or picks r.made 0)) (sym (take-append-le r.made picks _ (omega arith)))
           ∙ x.shut (omega arith) (get_or picks r.made 0) (w.of_eight r.made h)))
 
 -- ---- whether the schedule is listed
@@ -86,7 +86,7 @@ too_long g n ps notes b = refused g n ps notes (λ l. let w = l.at_most in omega
 module _ (n : ℕ) {plan ps before after : List ℕ} {r : Explored} (x : Explores plan ps before after r) (most : length ps ≤ n) (long : length before ≡ n)
     (rest : List ℕ) where
   abbrev g : Program
-  g = program_of_lem plan
+  g = program_of plan
 
   abbrev notes : List ℕ
   notes = after ++ rest

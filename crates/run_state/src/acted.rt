@@ -10,7 +10,7 @@ use run_outcome::NoRoom;
 
 // What a move does: where the mover goes on, its keys, the cell, the new object, the counts, the record, and how many keys it has learnt. Where it goes on
 // stands first, as in a move that only goes on elsewhere, so that one byte of the one is not part of a whole number of the other.
-#[derive(Drop)]
+#[derive(Clone, Copy)]
 pub struct Acted {
     pub go: Refocusing,
     pub keys: KeySet,
@@ -22,7 +22,7 @@ pub struct Acted {
 }
 
 // A move is done, or there is no room for what it makes.
-#[derive(Drop)]
+#[derive(Clone, Copy)]
 pub enum Act {
     Done(Acted),
     NoRoom(NoRoom),

@@ -6,14 +6,14 @@ use run_keys::KeySet;
 pub mod acted;
 
 // What a run goes by: the mask of the volatile fields, whose top bit is field 0, and the plan's version.
-#[derive(Drop)]
+#[derive(Clone, Copy)]
 pub struct Setting {
     pub mask: usize,
     pub version: usize,
 }
 
 // A thread: the redex that moves next, its depth, the object that stands for it, its keys, how many of them it has learnt from others.
-#[derive(Drop)]
+#[derive(Clone, Copy)]
 pub struct Head {
     pub ready: Ready,
     pub depth: usize,
@@ -24,7 +24,7 @@ pub struct Head {
 
 // A field or a monitor: the set of a volatile field or a monitor, its value, the one key of a plain field. Two numbers of 32 bits fill a word: a run
 // has 1,024 cells, and filling them is most of a play without picks.
-#[derive(Drop)]
+#[derive(Clone, Copy)]
 pub struct Cell {
     pub keys: KeySet,
     pub value: u32,
@@ -32,13 +32,13 @@ pub struct Cell {
 }
 
 // An object's fields, and the number of the thread that it stands for, 8 if none.
-#[derive(Drop)]
+#[derive(Clone, Copy)]
 pub struct Object {
     pub mask: usize,
     pub thread: usize,
 }
 
-#[derive(Drop)]
+#[derive(Clone, Copy)]
 pub struct Counts {
     pub threads: usize,
     pub objects: usize,
@@ -46,7 +46,7 @@ pub struct Counts {
 }
 
 // A record without its thread; kind::NONE is none.
-#[derive(Drop)]
+#[derive(Clone, Copy)]
 pub struct Entry {
     pub kind: usize,
     pub object: usize,

@@ -10,7 +10,7 @@ use run_outcome::{Outcome, Stop, Thread};
 use run_state::{Counts, Entry, acted};
 
 // What a run has counted.
-#[derive(Drop)]
+#[derive(Clone, Copy)]
 pub struct Tally {
     pub counts: Counts,
     pub moves: usize,
@@ -18,14 +18,14 @@ pub struct Tally {
 }
 
 // How many moves and records a run had before the last pick that it met; none where it met no pick.
-#[derive(Drop)]
+#[derive(Clone, Copy)]
 pub struct Before {
     pub moves: usize,
     pub records: usize,
 }
 
 // What a run comes to.
-#[derive(Drop)]
+#[derive(Clone, Copy)]
 pub struct Ran {
     pub outcome: Outcome,
     pub before: Before,

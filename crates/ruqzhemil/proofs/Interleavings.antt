@@ -9,7 +9,7 @@ use lib.ListN.{length}
 use borrow.Author.Tests.{ltb-false}
 use Rattle.format.specs.Refusal.{Check, check_whole, first_refusal}
 use Rattle.format.proofs.RefusalLaws.{both_none, head_pass, none_is_pass}
-use Rattle.plan_packed.specs.Trees.{program_of_lem}
+use Rattle.plan_packed.specs.Trees.{program_of}
 use Rattle.plan_packed.specs.Check.{refusal}
 use Rattle.plan_refusals.specs.Inner.Small.{SmallCheck}
 use Rattle.plan_refusals.proofs.Bounds.{small_checks, small_stages}
@@ -51,7 +51,7 @@ module _ (plan : List ℕ) (n : ℕ) (schedule area : List ℕ) where
   abbrev bound_check : List Check
   bound_check = check_whole 18 (over_bound n) ∷ []
 
-  few_followed : (qs : List ℕ) → next_refused plan n schedule ≡ none → Listed (program_of_lem plan) n qs → length qs < 2 ^ 32
+  few_followed : (qs : List ℕ) → next_refused plan n schedule ≡ none → Listed (program_of plan) n qs → length qs < 2 ^ 32
   few_followed qs e h =
       let passed = (both_none (schedule_refusal plan schedule) (first_refusal bound_check) (sym (next_stages plan n schedule area) ∙ e)).1 in
       few_picks n (length qs) (bounded n [] passed) h.at_most

@@ -6,7 +6,7 @@ use mathlib.Core.List.{List}
 use mathlib.Core.Option.{none}
 use lib.ListN.{length}
 use Rattle.plan_packed.specs.Check.{refusal}
-use Rattle.plan_packed.specs.Trees.{program_of_lem}
+use Rattle.plan_packed.specs.Trees.{program_of}
 use Rattle.plan_packed.proofs.Decoded.{well_formed}
 use Rattle.rules.specs.State.{start}
 use Rattle.rules.specs.Run.{run, play, outcome_of}
@@ -17,10 +17,10 @@ use Rattle.play.proofs.Moves.{few}
 use Rattle.abi_outcome.specs.Inner.Small.{SmallOutcome}
 use Rattle.ruqzhemil.proofs.Statuses.{small_threads}
 
-pub small_outcome : (plan ps : List ℕ) → refusal plan ≡ none → length ps ≤ 4096 → SmallOutcome (outcome_of (program_of_lem plan) (play (program_of_lem plan) ps))
+pub small_outcome : (plan ps : List ℕ) → refusal plan ≡ none → length ps ≤ 4096 → SmallOutcome (outcome_of (program_of plan) (play (program_of plan) ps))
 unfolding outcome_of play
 small_outcome plan ps e n =
-    let g = program_of_lem plan in
+    let g = program_of plan in
     let P = well_formed plan e in
     let t = tidy_play g P ps in
     let d = few (play_executes g P ps) in

@@ -6,7 +6,7 @@ use mathlib.Core.Option.{Option, some, none}
 use Rattle.format.specs.Refusal.{Refusal}
 use Rattle.plan_refusals.specs.Inner.Small.{SmallCheck}
 use Rattle.plan_packed.specs.Syntax.{Program}
-use Rattle.plan_packed.specs.Trees.{program_of_lem}
+use Rattle.plan_packed.specs.Trees.{program_of}
 use Rattle.plan_packed.proofs.Decoded.{well_formed}
 use Rattle.rules.specs.State.{State, start}
 use Rattle.rules.specs.Step.{attempt}
@@ -43,7 +43,7 @@ small_previewed plan schedule pick = go (schedule_refusal plan (with_pick schedu
     go : (o : Option Refusal) → schedule_refusal plan (with_pick schedule pick) ≡ o → SmallPreviewed (previewed_by plan schedule pick o)
     go (some r) e = subst SmallCheck e (small_schedule plan (with_pick schedule pick))
     go none e =
-        let g = program_of_lem plan in
+        let g = program_of plan in
         let P = well_formed plan (scheduled plan (with_pick schedule pick) e).plan_passes in
         small_at g (run g start schedule).final (reachable_run g P start schedule (reachable_start g P)).invariant (tidy_play g P schedule).roomy pick
         (run g start schedule).stop

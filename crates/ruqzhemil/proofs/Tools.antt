@@ -18,7 +18,7 @@ use Rattle.abi_convention.proofs.Wider.{wider}
 use Rattle.waveform.specs.Comtrade.{file_of, short_output, comtrade_refusal, comtrade_answer}
 use Rattle.waveform.proofs.Answers.{last, stages}
 use Rattle.waveform.proofs.FileLength.{file_most}
-use Rattle.plan_packed.specs.Trees.{program_of_lem}
+use Rattle.plan_packed.specs.Trees.{program_of}
 use Rattle.plan_packed.proofs.Decoded.{well_formed}
 use Rattle.rules.specs.Run.{outcome_of, instances}
 use Rattle.rules.specs.Play.{schedule_refusal, run_of}
@@ -29,7 +29,7 @@ use Rattle.charge.specs.Charge.{price_by, charge_of, charged}
 use Rattle.charge.proofs.Prices.{price_small}
 use Rattle.plan_packed.specs.Format.{plan_length}
 use Rattle.plan_packed.specs.Check.{refusal}
-use Rattle.plan_packed.proofs.Passing.{length_of, all_right}
+use Rattle.plan_packed.proofs.Passing.{length_of_lem, all_right}
 use Rattle.plan_written.specs.Written.{written_plan}
 use Rattle.plan_written.proofs.OneWay.{same_length}
 use Rattle.canonical.specs.Canonical.{canonical_refusal, canonical_answer}
@@ -53,7 +53,7 @@ small_charge plan schedule option = small_answer (schedule_refusal plan schedule
     few_cents : schedule_refusal plan schedule ≡ none → price_by option (run_of plan schedule).stop (length (instances (run_of plan schedule))) < 2 ^ 32
     few_cents e =
         let s = scheduled plan schedule e in
-        let m = (few (play_executes (program_of_lem plan) (well_formed plan s.plan_passes) schedule)).1 in
+        let m = (few (play_executes (program_of plan) (well_formed plan s.plan_passes) schedule)).1 in
         omega (arith, price_small option (run_of plan schedule).stop (length (instances (run_of plan schedule))) (omega (arith, s.few, m)))
 
 pub small_comtrade : (log area : List ℕ) → SmallAnswer (comtrade_answer log area)
@@ -76,7 +76,7 @@ few_by n p t e few many = omega arith
 
 pub few_bytes : (plan : List ℕ) → refusal plan ≡ none → length plan < 2 ^ 32
 unfolding plan_length
-few_bytes plan e = few_by _ _ _ (length_of plan (all_right plan e).six.right₁) (few_procedures plan) (few_terms plan)
+few_bytes plan e = few_by _ _ _ (length_of_lem plan (all_right plan e).six.right₁) (few_procedures plan) (few_terms plan)
 
 pub small_canonical : (plan area : List ℕ) → SmallAnswer (canonical_answer plan area)
 unfolding canonical_answer
@@ -93,7 +93,7 @@ small_canonical plan area = small_answer (canonical_refusal plan area) (length (
 
 pub small_bound : (plan : List ℕ) → SmallAnswer (bounded plan)
 unfolding bounded answer_by
-small_bound plan = small_answer (bound_refusal plan) (total (program_of_lem plan)) small few
+small_bound plan = small_answer (bound_refusal plan) (total (program_of plan)) small few
   where
     small : SmallCheck (bound_refusal plan)
     small =
@@ -101,5 +101,5 @@ small_bound plan = small_answer (bound_refusal plan) (total (program_of_lem plan
         (small_stages (refusal plan) (first_refusal (later_checks plan)) (small_plan plan)
         (small_checks (later_checks plan) (whole 21 (omega arith), (whole 22 (omega arith), (whole 23 (omega arith), tt)))))
 
-    few : bound_refusal plan ≡ none → total (program_of_lem plan) < 2 ^ 32
-    few e = omega (arith, (totalled plan (total (program_of_lem plan)) (ap (λ (o : Option Refusal). answer_by o (total (program_of_lem plan))) e)).most)
+    few : bound_refusal plan ≡ none → total (program_of plan) < 2 ^ 32
+    few e = omega (arith, (totalled plan (total (program_of plan)) (ap (λ (o : Option Refusal). answer_by o (total (program_of plan))) e)).most)

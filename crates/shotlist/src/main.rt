@@ -1,6 +1,8 @@
 // The printing program.
 #![tactic(auto)]
 
-fn main() {
-    shotlist_files::print_shot_list();
+use std::io;
+
+fn main(rt: HostRuntime) -> io::Result<()> {
+    shotlist_files::print_shot_list(&rt)
 }

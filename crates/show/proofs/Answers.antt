@@ -10,7 +10,7 @@ use Rattle.format.specs.Area.{overwrite}
 use Rattle.format.specs.Refusal.{Refusal, Check, check_whole, or_else, lowest, refuse, first_refusal}
 use Rattle.format.proofs.LowestLaws.{whole, whole_none}
 use Rattle.format.proofs.RefusalLaws.{refusal_append}
-use Rattle.plan_packed.specs.Trees.{program_of_lem}
+use Rattle.plan_packed.specs.Trees.{program_of}
 use Rattle.plan_packed.specs.Check.{checks, refusal}
 use Rattle.plan_refusals.specs.Answer as refusals
 use Rattle.plan_refusals.specs.declared.Checked.{Checked}
@@ -65,7 +65,7 @@ module _ (plan area : List ℕ) where
         whole_none (short_for_text plan area) (le-ltb (length area) (length (shown_text plan)) l) in passed ∙ rw m refl
 
     -- the text of its tokens is its text
-    pub text_written : (ts area' : List ℕ) (r : Answered) → ts ≡ shown_plan (program_of_lem plan) → TextWritten ts area area' r
+    pub text_written : (ts area' : List ℕ) (r : Answered) → ts ≡ shown_plan (program_of plan) → TextWritten ts area area' r
         → (answered r ≡ show_answer plan area) × (area' ≡ show_area plan area)
     unfolding shown_text text_of_program
     text_written ts area' r e (inl w) =

@@ -6,7 +6,7 @@ use mathlib.Core.Bool.{Bool, true, false, cond}
 use mathlib.Core.List.{List, [], ◌∷◌, ◌++◌}
 use mathlib.Core.Option.{none}
 use lib.ListN.{length, length-append, replicate, length-replicate}
-use Rattle.plan_packed.specs.Trees.{program_of_lem}
+use Rattle.plan_packed.specs.Trees.{program_of}
 use Rattle.plan_packed.specs.Check.{refusal}
 use Rattle.plan_written.proofs.RightPlans.{right_program}
 use Rattle.plan_notation.specs.Tokens.{text_of}
@@ -47,4 +47,4 @@ few_laid ts f = let h = laid_few ts start (known f) in let k = f.few in omega ar
 -- the text of an accepted plan
 pub text_few : (plan : List ℕ) → refusal plan ≡ none → length (shown_text plan) ≤ 574501
 unfolding shown_text text_of_program
-text_few plan e = few_laid (shown_plan (program_of_lem plan)) (plan_fit (program_of_lem plan) (right_program plan e))
+text_few plan e = few_laid (shown_plan (program_of plan)) (plan_fit (program_of plan) (right_program plan e))

@@ -7,7 +7,7 @@ use mathlib.Core.Option.{none}
 use lib.ListN.{length, take}
 use Rattle.plan_packed.specs.Format.{terms}
 use Rattle.plan_packed.specs.Inner.Steps.{Loaded}
-use Rattle.plan_packed.specs.Trees.{program_of_lem}
+use Rattle.plan_packed.specs.Trees.{program_of}
 use Rattle.plan_packed.specs.Check.{refusal}
 use Rattle.plan_refusals.specs.Answer.{answered}
 use Rattle.plan_refusals.specs.declared.Checked.{Checked}
@@ -27,25 +27,25 @@ pub given : {plan words : List ℕ} {r : Checked} → answered r ≡ refusal pla
 given {plan} {words} {r} e l q = record { passes = passed_none (refusal plan) r e q; loaded = l q }
 
 -- the first n bytes of the array, as the code takes them
-first_tokens : (plan : List ℕ) {a b : List ℕ} {n : ℕ} → Wrote a 0 (shown_plan (program_of_lem plan)) b n → take (n - 0) b ≡ shown_plan (program_of_lem plan)
+first_tokens : (plan : List ℕ) {a b : List ℕ} {n : ℕ} → Wrote a 0 (shown_plan (program_of plan)) b n → take (n - 0) b ≡ shown_plan (program_of plan)
 first_tokens plan {b = b} {n} w = ap (λ (m : ℕ). take m b) (same n) ∙ w.text
   where
     same : (n : ℕ) → n - 0 ≡ n
     same n = omega arith
 
-pub tokens_length : (plan : List ℕ) {a b : List ℕ} {n : ℕ} → Wrote a 0 (shown_plan (program_of_lem plan)) b n
-    → length (take (n - 0) b) ≡ length (shown_plan (program_of_lem plan))
+pub tokens_length : (plan : List ℕ) {a b : List ℕ} {n : ℕ} → Wrote a 0 (shown_plan (program_of plan)) b n
+    → length (take (n - 0) b) ≡ length (shown_plan (program_of plan))
 tokens_length plan w = ap length (first_tokens plan w)
 
 -- what is written of them is written of the plan's tokens
-pub plan_text_lem : (plan : List ℕ) {a b area area' : List ℕ} {n : ℕ} {r : Answered} → Wrote a 0 (shown_plan (program_of_lem plan)) b n
-    → TextWritten (take (n - 0) b) area area' r → TextWritten (shown_plan (program_of_lem plan)) area area' r
+pub plan_text_lem : (plan : List ℕ) {a b area area' : List ℕ} {n : ℕ} {r : Answered} → Wrote a 0 (shown_plan (program_of plan)) b n
+    → TextWritten (take (n - 0) b) area area' r → TextWritten (shown_plan (program_of plan)) area area' r
 plan_text_lem plan {area = area} {area'} {r = r} w t = subst (λ (ts : List ℕ). TextWritten ts area area' r) (first_tokens plan w) t
 
-pub known_tokens : {plan words a b : List ℕ} {n : ℕ} → Given plan words → Wrote a 0 (shown_plan (program_of_lem plan)) b n
+pub known_tokens : {plan words a b : List ℕ} {n : ℕ} → Given plan words → Wrote a 0 (shown_plan (program_of plan)) b n
     → Known (take (n - 0) b) × (length (take (n - 0) b) ≤ 16384)
 known_tokens {plan} g w =
-    let f = plan_fit (program_of_lem plan) (right_program plan g.passes) in
+    let f = plan_fit (program_of plan) (right_program plan g.passes) in
     let e = first_tokens plan w in
     (subst Known (sym e) (known f), omega (arith, ap length e, f.few))
 

@@ -14,7 +14,7 @@ use lib.Seq.{take-append_seam, take_all}
 use Rattle.run_keys.specs.Keys.{Keys, empty, holds, is_empty}
 use Rattle.run_keys.proofs.KeyLaws.{some_key, no_key}
 use Rattle.plan_packed.specs.Syntax.{Program}
-use Rattle.plan_packed.specs.Trees.{program_of_lem}
+use Rattle.plan_packed.specs.Trees.{program_of}
 use Rattle.plan_packed.specs.Check.{refusal}
 use Rattle.plan_packed.proofs.WellFormed.{WellFormedProgram}
 use Rattle.plan_packed.proofs.Decoded.{well_formed}
@@ -154,10 +154,10 @@ module _ (plan : List ℕ) (e : refusal plan ≡ none) where
   pub monitors_shown : (ps qs : List ℕ) (n o : ℕ) → length (log (run_of plan ps)) ≡ n
       → (digital o (take n (log (run_of plan (ps ++ qs)))) ≡ 1) ↔ Held (run_of plan ps).final o
   unfolding run_of
-  monitors_shown = line_shown (program_of_lem plan) (well_formed plan e)
+  monitors_shown = line_shown (program_of plan) (well_formed plan e)
 
   -- and for each line there are such first picks
   pub each_line_shown : (ps : List ℕ) (n o : ℕ) → n ≤ length (log (run_of plan ps))
       → (k : ℕ) × (length (log (run_of plan (take k ps))) ≡ n) × ((digital o (take n (log (run_of plan ps))) ≡ 1) ↔ Held (run_of plan (take k ps)).final o)
   unfolding run_of
-  each_line_shown = every_line (program_of_lem plan) (well_formed plan e)
+  each_line_shown = every_line (program_of plan) (well_formed plan e)

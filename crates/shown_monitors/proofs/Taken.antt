@@ -13,7 +13,7 @@ use Rattle.log_order.proofs.KeySets.{KeySet, no_keys, no_keys→, only_zero, put
 use Rattle.log_order.proofs.KeyMachine.{KeyState, start, act, after, Legal}
 use Rattle.log_order.proofs.Known.{known_zero}
 use Rattle.log_order.proofs.Invariant.{invariant}
-use Rattle.text_sample_lines.specs.DataFile.{of_monitor, last_of_lem, digital}
+use Rattle.text_sample_lines.specs.DataFile.{of_monitor, last_of, digital}
 use Rattle.text_sample_lines.proofs.Digital.{taken_one, freed_zero, other_object, other_kind}
 
 -- the set of a monitor beside its digital value: without a key, and 1; or with one, and 0
@@ -81,7 +81,7 @@ module _ (v : Version) (H : List Record) (l : Legal v H) (r : Record) (present :
 
 -- after any legal log, newest first
 pub shows : (v : Version) (H : List Record) → Legal v H → (o : ℕ) → Shows ((after v H).monitors o) (digital o (reverse H))
-unfolding start only_zero digital last_of_lem
+unfolding start only_zero digital last_of
 shows v [] l o = inr ((0, tt), refl)
 shows v (r ∷ H) l o =
     subst (Shows ((after v (r ∷ H)).monitors o)) (ap (digital o) (sym (reverse-cons r H)))

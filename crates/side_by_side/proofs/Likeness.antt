@@ -11,7 +11,7 @@ use Rattle.plan_packed.specs.Syntax.{Signal, Expression, Condition, Arguments, P
 use Rattle.plan_packed.specs.Syntax.{substituteᶜ, substituteᵃ, bool}
 use Rattle.plan_packed.specs.Slots.{bound}
 use Rattle.plan_packed.proofs.WellFormed.{WellFormed, WellFormedᶜ, WellFormedᵃ}
-use Rattle.rules.specs.Context.{Context, Contextᶜ, Redex, Redexᶜ, Focus, focus, focusᶜ, focusᵃ, on_literal, on_bool, on_not, as_literal, as_bool_lem, is_truth}
+use Rattle.rules.specs.Context.{Context, Contextᶜ, Redex, Redexᶜ, Focus, focus, focusᶜ, focusᵃ, on_literal, on_bool, on_not, as_literal, as_bool, is_truth}
 use Rattle.rules.specs.Context.{false_when, plug, plugᶜ, literals, depth, depthᶜ, depth_of}
 use Rattle.rules.specs.Step.{around}
 use Rattle.rules.proofs.FocusPlug.{found}
@@ -210,8 +210,8 @@ module _ (ω : Naming) where
   truth_like (c_and a b) = refl
   truth_like (c_equal a b) = refl
 
-  bool_like : {b c : Condition} → Likeᶜ ω b c → as_bool_lem b ≡ as_bool_lem c
-  unfolding as_bool_lem
+  bool_like : {b c : Condition} → Likeᶜ ω b c → as_bool b ≡ as_bool c
+  unfolding as_bool
   bool_like c_truth = refl
   bool_like (c_not a) = ap false_when (truth_like a)
   bool_like (c_and a b) = refl
@@ -237,7 +237,7 @@ module _ (ω : Naming) where
 
   module _ (zero_kept : ω 0 ≡ some 0) where
     mutual
-      unfolding focus as_literal as_bool_lem
+      unfolding focus as_literal as_bool
 
       pub focus_like : {d e : Expression} → Like ω d e → {K J : Context} → LikeContext ω K J → LikeFocus ω (focus K d) (focus J e)
       focus_like (e_lit h) k = f_value h
@@ -248,7 +248,7 @@ module _ (ω : Naming) where
           on_lit (as_like a) _ _ _ _ (λ o v q. on_lit (as_like b) _ _ _ _ (λ o' v' q'. f_here k (r_write q q')) (focus_like b (k_write₂ k q)))
           (focus_like a (k_write₁ k b))
       focus_like (e_lets a b) k = on_lit (as_like a) _ _ _ _ (λ o v q. f_here k (r_lets q b)) (focus_like a (k_lets k b))
-      focus_like (e_if {b = b} {c = c} x a d) k = on_bool_lem (as_bool_lem b) (as_bool_lem c) (bool_like x) _ _ _ _ (λ y. f_here k (r_if a d)) (focus_likeᶜ x (k_if k a d))
+      focus_like (e_if {b = b} {c = c} x a d) k = on_bool_lem (as_bool b) (as_bool c) (bool_like x) _ _ _ _ (λ y. f_here k (r_if a d)) (focus_likeᶜ x (k_if k a d))
       focus_like (e_while c a) k = f_here k (r_while c a)
       focus_like (e_call {m = m} a) k = focus_likeᵃ a k m l_nil
       focus_like (e_fork a) k = f_here k (r_fork a)
@@ -259,8 +259,8 @@ module _ (ω : Naming) where
 
       pub focus_likeᶜ : {b c : Condition} → Likeᶜ ω b c → {K J : Contextᶜ} → LikeContextᶜ ω K J → LikeFocus ω (focusᶜ K b) (focusᶜ J c)
       focus_likeᶜ c_truth k = f_value zero_kept
-      focus_likeᶜ (c_not {b} {c} a) k = on_bool_lem (as_bool_lem b) (as_bool_lem c) (bool_like a) _ _ _ _ (λ y. not_like k y zero_kept) (focus_likeᶜ a (k_not k))
-      focus_likeᶜ (c_and {b} {c} a d) k = on_bool_lem (as_bool_lem b) (as_bool_lem c) (bool_like a) _ _ _ _ (λ y. f_hereᶜ k (r_and d)) (focus_likeᶜ a (k_and k d))
+      focus_likeᶜ (c_not {b} {c} a) k = on_bool_lem (as_bool b) (as_bool c) (bool_like a) _ _ _ _ (λ y. not_like k y zero_kept) (focus_likeᶜ a (k_not k))
+      focus_likeᶜ (c_and {b} {c} a d) k = on_bool_lem (as_bool b) (as_bool c) (bool_like a) _ _ _ _ (λ y. f_hereᶜ k (r_and d)) (focus_likeᶜ a (k_and k d))
       focus_likeᶜ (c_equal a b) k =
           on_lit (as_like a) _ _ _ _ (λ o v q. on_lit (as_like b) _ _ _ _ (λ o' v' q'. f_hereᶜ k (r_equal q q')) (focus_like b (k_equal₂ k q)))
           (focus_like a (k_equal₁ k b))

@@ -10,7 +10,7 @@ use lib.ListN.{length}
 use borrow.Author.Tests.{eqb-false}
 use Rattle.format.specs.Version.{v1, version_of}
 use Rattle.plan_packed.specs.Format.{version}
-use Rattle.plan_packed.specs.Trees.{program_of_lem}
+use Rattle.plan_packed.specs.Trees.{program_of}
 use Rattle.plan_packed.specs.Check.{refusal}
 use Rattle.plan_packed.proofs.Accepted.{accepted}
 use Rattle.plan_packed.proofs.Decoded.{well_formed}
@@ -38,24 +38,24 @@ module _ (b : List ℕ) (a : refusal b ≡ none) (k : left_out b ≡ false) wher
   unfolding left_out
   parts = neither (eqb (version b) 0) (has_wait b) k
 
-  version_1 : (program_of_lem b).version ≡ v1
-  unfolding program_of_lem version_of
+  version_1 : (program_of b).version ≡ v1
+  unfolding program_of version_of
   version_1 = ap version_of (one_of_two (version b) (accepted b a).version_known parts.0)
 
   -- from a run that stopped for a missing key: the schedule, and the two accesses side by side at its end
-  pub plan_from_race : (ps : List ℕ) → (run_of b ps).stop ≡ Stop.race → (qs : List ℕ) × (w : Written (program_of_lem b) ps qs) × SideBySide (program_of_lem b) ps qs w
+  pub plan_from_race : (ps : List ℕ) → (run_of b ps).stop ≡ Stop.race → (qs : List ℕ) × (w : Written (program_of b) ps qs) × SideBySide (program_of b) ps qs w
   unfolding run_of
-  plan_from_race ps r = from_race (program_of_lem b) (well_formed b a) version_1 (waitless b a parts.1) ps r
+  plan_from_race ps r = from_race (program_of b) (well_formed b a) version_1 (waitless b a parts.1) ps r
 
   -- its failing access is the last of its moves, and unordered after the last write
   pub plan_unordered : (ps : List ℕ) → (run_of b ps).stop ≡ Stop.race
-      → (j : ℕ) × (suc j ≡ length (moves_of (program_of_lem b) ps)) × Unordered v1 (moves_of (program_of_lem b) ps) j
+      → (j : ℕ) × (suc j ≡ length (moves_of (program_of b) ps)) × Unordered v1 (moves_of (program_of b) ps) j
   unfolding run_of
-  plan_unordered ps r = race_unordered (program_of_lem b) (well_formed b a) version_1 (waitless b a parts.1) ps r
+  plan_unordered ps r = race_unordered (program_of b) (well_formed b a) version_1 (waitless b a parts.1) ps r
 
 -- and conversely, of every accepted plan
 pub plan_conflict_races : (b : List ℕ) → refusal b ≡ none → (ps : List ℕ) → (run_of b ps).stop ≡ Stop.end → (p q : ℕ)
-    → Conflict (program_of_lem b) (run_of b ps).final p q
-    → HasRoom (program_of_lem b) (run_of b ps).final p → (run_of b (ps ++ (p ∷ q ∷ []))).stop ≡ Stop.race
+    → Conflict (program_of b) (run_of b ps).final p q
+    → HasRoom (program_of b) (run_of b ps).final p → (run_of b (ps ++ (p ∷ q ∷ []))).stop ≡ Stop.race
 unfolding run_of
-plan_conflict_races b h ps r p q c room = conflict_races (program_of_lem b) (well_formed b h) ps r p q c room
+plan_conflict_races b h ps r p q c room = conflict_races (program_of b) (well_formed b h) ps r p q c room

@@ -7,7 +7,7 @@ use mathlib.Core.Option.{none}
 use lib.Dec.{lit<}
 use Rattle.plan_packed.specs.Syntax.{Signal, Expression, Condition, Arguments, Procedure}
 use Rattle.plan_packed.specs.Format.{root, tag_at}
-use Rattle.plan_packed.specs.Trees.{ExpressionNode, Node, nodes, node_at, Stands, Standsᶜ, Standsᵃ, tree_at, procedure_at, program_of_lem}
+use Rattle.plan_packed.specs.Trees.{ExpressionNode, Node, nodes, node_at, Stands, Standsᶜ, Standsᵃ, tree_at, procedure_at, program_of}
 use Rattle.plan_packed.specs.Check.{refusal}
 use Rattle.plan_packed.proofs.Decoded.{node_is, procedures_inside, accepted_stands}
 use Rattle.plan_packed.proofs.Tags.{by_tag}
@@ -61,7 +61,7 @@ module _ (b : List ℕ) (a : refusal b ≡ none) (h : has_wait b ≡ false) wher
   unfolding has_wait
   no_wait t i e = no_tag b a 18 (lit< tt) h t (tag_wait _ _ _ i (tag_at b t) (sym (node_is b t (tag_at b t) refl) ∙ e))
 
-  pub waitless : WaitlessProgram (program_of_lem b)
+  pub waitless : WaitlessProgram (program_of b)
   unfolding procedure_at
   waitless = record {
     bodies = λ m d e.

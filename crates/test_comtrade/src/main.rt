@@ -1,21 +1,22 @@
 // A test of the program comtrade: its two files are written into the current folder, read back and printed, the configuration file first.
 #![tactic(auto)]
-use libc::STDOUT_FILENO;
 
-fn print_file(name: &[u8]) {
-    let file = os::open_read(name);
-    if file < 0 {
-        os::fail(name);
-        return;
+use std::io;
+use std::rt::Files;
+
+fn print_file<R: Files + Print + Eprint + Alloc>(rt: &R, name: &[u8]) -> io::Result<()> {
+    match program_files::open(rt, name) {
+        None => Ok(()),
+        Some(mut file) => {
+            let mut buffer = [0u8; 65536];
+            let size = program_files::read_full(&mut file, &mut buffer)?;
+            rt.write_all(&buffer[..size])
+        }
     }
-    let mut buffer = io::large_buffer();
-    let size = io::read_full(file, &mut buffer);
-    libc::close(file);
-    io::write_all(STDOUT_FILENO, &buffer[..size]);
 }
 
-fn main() {
-    comtrade_files::write_pair(b"run.dat", b"run.cfg");
-    print_file(b"run.cfg");
-    print_file(b"run.dat");
+fn main(rt: HostRuntime) -> io::Result<()> {
+    comtrade_files::write_pair(&rt, b"run.dat", b"run.cfg")?;
+    print_file(&rt, b"run.cfg")?;
+    print_file(&rt, b"run.dat")
 }

@@ -1,7 +1,11 @@
 // The cases of a file, each behind its length of two bytes, and how many of them differ.
 ghost use Rattle.std.specs.Prelude.{◌≤◌};
 
-#[derive(Drop)]
+use std::io::Read;
+use std::rt::Files;
+use std::{fs, io};
+
+#[derive(Clone, Copy)]
 pub enum Group {
     Version,
     Check,
@@ -21,14 +25,14 @@ pub enum Group {
 }
 
 // What the next case of a file is.
-#[derive(Drop)]
+#[derive(Clone, Copy)]
 enum Next {
     Right,
     Wrong,
     End,
 }
 
-#[derive(Drop)]
+#[derive(Clone, Copy)]
 pub struct Tally {
     pub cases: u64,
     pub differ: u64,
@@ -55,48 +59,39 @@ fn right(group: Group, case: &[u8]) -> bool {
 }
 
 // Reads a case of the given size. A file that ends within it is damaged.
-fn read_case(fd: i32, group: Group, size: usize) -> Next
+fn read_case<R: Read>(file: &mut R, group: Group, size: usize) -> io::Result<Next>
     requires { size ≤ 65535 }
 {
-    let mut buffer = io::large_buffer();
-    let got = io::read_full(fd, &mut buffer[..size]);
+    let mut buffer = [0u8; 65536];
+    let got = program_files::read_full(file, &mut buffer[..size])?;
     if got < size {
-        return Next::Wrong;
+        return Ok(Next::Wrong);
     }
     if right(group, &buffer[..size]) {
-        Next::Right
+        Ok(Next::Right)
     } else {
-        Next::Wrong
+        Ok(Next::Wrong)
     }
 }
 
-fn next_case(fd: i32, group: Group) -> Next {
+fn next_case<R: Read>(file: &mut R, group: Group) -> io::Result<Next> {
     let mut head = [0u8; 2];
-    let got = io::read_full(fd, &mut head);
+    let got = program_files::read_full(file, &mut head)?;
     if got == 0 {
-        return Next::End;
+        return Ok(Next::End);
     }
     if got == 1 {
-        return Next::Wrong;
+        return Ok(Next::Wrong);
     }
-    read_case(fd, group, byte_numbers::half(&head, 0))
+    read_case(file, group, byte_numbers::half(&head, 0))
 }
 
-// The tally of a file of the current folder, of no more than a million cases. A file that cannot be read counts as a case that differs.
-pub fn tally_of(path: &[u8], group: Group) -> Tally {
-    let fd = os::open_read(path);
-    if fd < 0 {
-        return Tally {
-            cases: 1,
-            differ: 1,
-        };
-    }
+// The tally of a file that is open, of no more than a million cases.
+fn tally_in<R: Read>(file: &mut R, group: Group) -> io::Result<Tally> {
     let mut cases: u64 = 0;
     let mut differ: u64 = 0;
-    let mut left: u64 = 1000000;
-    while left > 0 {
-        let next = next_case(fd, group);
-        match next {
+    for _ in 0..1000000u64 {
+        match next_case(file, group)? {
             Next::Right => {
                 cases += 1;
             }
@@ -104,23 +99,27 @@ pub fn tally_of(path: &[u8], group: Group) -> Tally {
                 cases += 1;
                 differ += 1;
             }
-            Next::End => {
-                left = 1;
-            }
+            Next::End => break,
         }
-        left -= 1;
     }
-    libc::close(fd);
-    Tally {
-        cases: cases,
-        differ: differ,
+    Ok(Tally { cases, differ })
+}
+
+// The same of a file of the current folder. A file that cannot be opened counts as a case that differs.
+pub fn tally_of<R: Files>(rt: &R, path: &str, group: Group) -> io::Result<Tally> {
+    match fs::open(rt, path) {
+        Ok(mut file) => tally_in(&mut file, group),
+        Err(_) => Ok(Tally {
+            cases: 1,
+            differ: 1,
+        }),
     }
 }
 
 // Both tallies together; no count of cases comes near the end of 64 bits.
 pub fn both(first: Tally, second: Tally) -> Tally {
     Tally {
-        cases: std::num::wrapping_add_u64(first.cases, second.cases),
-        differ: std::num::wrapping_add_u64(first.differ, second.differ),
+        cases: first.cases.wrapping_add(second.cases),
+        differ: first.differ.wrapping_add(second.differ),
     }
 }

@@ -18,8 +18,8 @@ fn put_channel(area: &mut [u8], at: usize, object: usize) -> usize
 // The lines of the channels of 32 objects. None is over 18 bytes.
 fn put_channels(area: &mut [u8], at: usize) -> usize
     requires { at + 576 ≤ length area.old }
-    ensures fact_1 { Wrote area.old at (channel_lines 32) area.new result }
-    ensures fact_2 { result ≤ at + 576 }
+    ensures wrote { Wrote area.old at (channel_lines 32) area.new result }
+    ensures within { result ≤ at + 576 }
 {
     let mut next = at;
     let mut object = 0;
@@ -33,8 +33,8 @@ fn put_channels(area: &mut [u8], at: usize) -> usize
 // The lines after the channels, for so many samples.
 fn put_last(area: &mut [u8], at: usize, samples: usize) -> usize
     requires { (samples ≤ 4096) × (at + 100 ≤ length area.old) }
-    ensures fact_1 { Wrote area.old at (last_lines samples) area.new result }
-    ensures fact_2 { result ≤ at + 100 }
+    ensures wrote { Wrote area.old at (last_lines samples) area.new result }
+    ensures within { result ≤ at + 100 }
 {
     let at = text::put_word(area, at, b"50\r\n1\r\n1000,");
     let at = text::put_number(area, at, samples);
@@ -45,8 +45,8 @@ fn put_last(area: &mut [u8], at: usize, samples: usize) -> usize
 // The whole file for so many samples, at the area's start.
 pub fn put_configuration(area: &mut [u8], samples: usize) -> usize
     requires { (samples ≤ 4096) × (1024 ≤ length area.old) }
-    ensures fact_1 { Wrote area.old 0 (configuration_file samples) area.new result }
-    ensures fact_2 { result ≤ 1024 }
+    ensures wrote { Wrote area.old 0 (configuration_file samples) area.new result }
+    ensures within { result ≤ 1024 }
 {
     let at = text::put_word(area, 0, b"Ruqzhemil,relay test set,1999\r\n32,0A,32D\r\n");
     let at = put_channels(area, at);

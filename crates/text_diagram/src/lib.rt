@@ -22,9 +22,9 @@ pub fn put_diagram(
     race: Race,
 ) -> usize
     requires { Room log.now starts.now ends.now count race at (length area.old) }
-    ensures fact_1 { Wrote area.old at
+    ensures wrote { Wrote area.old at
         (diagram_text (log_of log.now) (arrows_of starts.now ends.now count) (race_of race)) area.new result }
-    ensures fact_2 { result ≤ at + (1792 + 192 * (length log.now / 3) + 66 * count) }
+    ensures within { result ≤ at + (1792 + 192 * (length log.now / 3) + 66 * count) }
 {
     let records = log.len() / 3;
     let lanes = lanes::lane_count(log);

@@ -5,7 +5,7 @@ ghost use Rattle.text_diagram_elements.specs.Diagram.{attribute, segment};
 ghost use Rattle.text_diagram_elements.specs.Inner.Drawn.{Drawn, Inside};
 
 // The race that is drawn.
-#[derive(Drop)]
+#[derive(Clone, Copy)]
 pub enum Race {
     // The indices of its last write and of the access that is unordered after it.
     Between { write: usize, access: usize },

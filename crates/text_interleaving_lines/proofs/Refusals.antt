@@ -11,7 +11,7 @@ use borrow.Author.Tests.{le-ltb, ltb-false}
 use Rattle.format.specs.Refusal.{Refusal, Check, check, check_whole, or_else, lowest, refuse, first_refusal}
 use Rattle.format.proofs.LowestLaws.{whole, whole_none}
 use Rattle.format.proofs.RefusalLaws.{refusal_append, both_none, none_below, head_pass, none_is_pass}
-use Rattle.plan_packed.specs.Trees.{program_of_lem}
+use Rattle.plan_packed.specs.Trees.{program_of}
 use Rattle.plan_packed.specs.Check.{checks, refusal}
 use Rattle.rules.specs.Play.{too_many_picks, wrong_pick, schedule_checks, schedule_refusal}
 use Rattle.run_schedule_refusals.specs.Inner.Checks.{pick_checks}
@@ -57,7 +57,7 @@ module _ (plan : List ℕ) (n : ℕ) where
     bound_of = ltb-false 64 n ((head_pass ((none_is_pass bounds).0 stages_none.1)).right 0 (lit< tt))
 
     -- a listed schedule has few picks, each of a thread
-    module _ (ps : List ℕ) (l : Listed (program_of_lem plan) n ps) where
+    module _ (ps : List ℕ) (l : Listed (program_of plan) n ps) where
       picks_pass : first_refusal (pick_checks ps) ≡ none
       unfolding refuse first_refusal too_many_picks wrong_pick
       picks_pass =

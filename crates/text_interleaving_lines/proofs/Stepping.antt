@@ -10,7 +10,7 @@ use lib.ListN.{length, take}
 use Rattle.format.specs.Area.{overwrite}
 use Rattle.format.specs.Refusal.{Refusal}
 use Rattle.format.proofs.AreaLaws.{overwrite_first, overwrite_covers}
-use Rattle.plan_packed.specs.Trees.{program_of_lem}
+use Rattle.plan_packed.specs.Trees.{program_of}
 use Rattle.text.specs.Inner.Wrote.{Wrote}
 use Rattle.answers.specs.Answer.{value, refused, answered}
 use Rattle.answers.specs.declared.Answered.{Answered}
@@ -43,9 +43,9 @@ module _ (plan : List ℕ) (n : ℕ) (area : List ℕ) (long : 64 ≤ length are
           passed = passed;
           long = omega (arith, same);
           few = omega (arith, f.has.at_most, bound_of plan n passed);
-          listed = along (Listed (program_of_lem plan) n) (sym is) f.has;
+          listed = along (Listed (program_of plan) n) (sym is) f.has;
         };
-        is_first = along (First (program_of_lem plan) n) (sym is) f;
+        is_first = along (First (program_of plan) n) (sym is) f;
       }
 
   module _ (x : Answered) (after : List ℕ) (h : FirstAnswer plan n area (answered x) after) where
@@ -64,8 +64,8 @@ module _ (plan : List ℕ) (n : ℕ) (schedule : List ℕ) (picks : ℕ) (s : He
   same : take picks schedule ≡ given
   same = ap (λ (k : ℕ). take k schedule) (sym (sub-zero picks))
 
-  here_listed : Listed (program_of_lem plan) n given
-  here_listed = along (Listed (program_of_lem plan) n) same s.listed
+  here_listed : Listed (program_of plan) n given
+  here_listed = along (Listed (program_of plan) n) same s.listed
 
   passes : next_refused plan n given ≡ none
   passes = next_passes plan n s.passed given here_listed
@@ -73,8 +73,8 @@ module _ (plan : List ℕ) (n : ℕ) (schedule : List ℕ) (picks : ℕ) (s : He
   -- what the answer says
   abbrev pub Means : papers.Next → List ℕ → Type 0
   Means (papers.Next.refused r) after = ⊥
-  Means (papers.Next.written m) after = (m ≤ 64) × (m ≤ length after) × Following (program_of_lem plan) n given (take (m - 0) after)
-  Means papers.Next.over after = Over (program_of_lem plan) n given
+  Means (papers.Next.written m) after = (m ≤ 64) × (m ≤ length after) × Following (program_of plan) n given (take (m - 0) after)
+  Means papers.Next.over after = Over (program_of plan) n given
 
   means : {x : papers.Next} {after : List ℕ} → NextAnswer plan n given room x after → Means x after
   means (NextAnswer.REFUSED e) = either e passes
@@ -84,7 +84,7 @@ module _ (plan : List ℕ) (n : ℕ) (schedule : List ℕ) (picks : ℕ) (s : He
       let is = ap (λ (k : ℕ). take k (overwrite qs room)) (sub-zero (length qs)) ∙ overwrite_first qs room in (
         omega (arith, f.has.at_most, bound_of plan n s.passed),
         overwrite_covers qs room,
-        along (Following (program_of_lem plan) n given) (sym is) f,
+        along (Following (program_of plan) n given) (sym is) f,
       )
   means (NextAnswer.OVER e l h o) = o
 
@@ -96,24 +96,24 @@ module _ (plan : List ℕ) (n : ℕ) (schedule : List ℕ) (picks : ℕ) (s : He
     pub next_written : (m : ℕ) → x ≡ next.Written m → Means (papers.Next.written m) after
     next_written m e = along (λ (y : Next). Means (nexts.answered y) after) e so
 
-    pub next_over : x ≡ next.Over → Over (program_of_lem plan) n (take picks schedule)
-    next_over e = along (Over (program_of_lem plan) n) (sym same) (along (λ (y : Next). Means (nexts.answered y) after) e so)
+    pub next_over : x ≡ next.Over → Over (program_of plan) n (take picks schedule)
+    next_over e = along (Over (program_of plan) n) (sym same) (along (λ (y : Next). Means (nexts.answered y) after) e so)
 
     pub next_refused_lem : (k i : ℕ) → x ≡ next.Refused k i → ⊥
     next_refused_lem k i e = along (λ (y : Next). Means (nexts.answered y) after) e so
 
     -- the following one is put in its place
     pub put_next : (m : ℕ) → x ≡ next.Written m → (late : List ℕ) (r : ℕ) → Wrote schedule 0 (take (m - 0) after) late r
-        → Here plan n late r × Following (program_of_lem plan) n (take picks schedule) (take r late)
+        → Here plan n late r × Following (program_of plan) n (take picks schedule) (take r late)
     put_next m e late r w =
         let t = next_written m e in
-        let f = along (λ (l : List ℕ). Following (program_of_lem plan) n l (take (m - 0) after)) (sym same) t.2 in
+        let f = along (λ (l : List ℕ). Following (program_of plan) n l (take (m - 0) after)) (sym same) t.2 in
         let is : take r late ≡ take (m - 0) after = w.text in (
           record {
             passed = s.passed;
             long = omega (arith, w.kept, s.long);
             few = omega (arith, w.next, f.has.at_most, bound_of plan n s.passed);
-            listed = along (Listed (program_of_lem plan) n) (sym is) f.has;
+            listed = along (Listed (program_of plan) n) (sym is) f.has;
           },
-          along (Following (program_of_lem plan) n (take picks schedule)) (sym is) f,
+          along (Following (program_of plan) n (take picks schedule)) (sym is) f,
         )

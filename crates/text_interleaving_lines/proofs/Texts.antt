@@ -10,7 +10,7 @@ use mathlib.Core.Option.{some}
 use lib.ListN.{length, length-append, length-take, get_elem?, take}
 use lib.Seq.{take_all}
 use Rattle.plan_packed.specs.Syntax.{Program}
-use Rattle.plan_packed.specs.Trees.{program_of_lem}
+use Rattle.plan_packed.specs.Trees.{program_of}
 use Rattle.text.specs.Inner.Wrote.{Wrote}
 use Rattle.text.proofs.Added.{added_none, added_more, added_as}
 use Rattle.text_inputs.specs.Schedules.{digit_line, digits_of}
@@ -44,7 +44,7 @@ line_short ps = length-append (digits_of ps) (10 ∷ []) ∙ omega (arith, lengt
 
 module _ (plan : List ℕ) (n : ℕ) (area₀ : List ℕ) where
   abbrev g : Program
-  g = program_of_lem plan
+  g = program_of plan
 
   -- the schedule at a place of the whole list, and behind the lines of those before it
   pub record Stands (schedule : List ℕ) (picks place : ℕ) (area : List ℕ) (at : ℕ) : Type 0 where

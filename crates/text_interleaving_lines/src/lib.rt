@@ -11,7 +11,7 @@ use interleavings::Next;
 use text_inputs::schedules;
 
 // What comes after a schedule.
-#[derive(Drop)]
+#[derive(Clone, Copy)]
 pub enum Step {
     // The following one, of so many picks.
     Following(usize),

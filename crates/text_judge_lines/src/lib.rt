@@ -23,8 +23,8 @@ fn put_ordered(area: &mut [u8]) -> usize
 
 // The lines of the access that the judge names.
 fn put_named(area: &mut [u8], version: usize, log: &[u8], later: usize) -> usize
-    requires fact_1 { Named (version_of version) log.now later }
-    requires fact_2 { 200 ≤ length area.old }
+    requires named { Named (version_of version) log.now later }
+    requires room { 200 ≤ length area.old }
     ensures { WroteConflict (version_of version) log.now later area.old area.new result }
 {
     let earlier = search::last_conflict(version, log, later);

@@ -32,8 +32,8 @@ fn plain(kind: usize) -> bool
 
 // Whether an earlier record conflicts with a later one, which is a plain access.
 fn conflict(earlier: Columns, later: Columns) -> bool
-    requires fact_1 { Narrow earlier }
-    requires fact_2 { Narrow later }
+    requires earlier_narrow { Narrow earlier }
+    requires later_narrow { Narrow later }
     ensures { result ≡ conflict_test earlier later }
 {
     let one_writes = writes(earlier.kind) | writes(later.kind);

@@ -7,7 +7,7 @@ ghost use Rattle.text_answer_lines.specs.Inner.Told.{Told};
 ghost use Rattle.text_log_words.specs.Words.{LogText, Answered};
 
 // The words whose answer is a text about a log, with the version that the judge is told.
-#[derive(Drop)]
+#[derive(Clone, Copy)]
 pub enum LogWord {
     Judge(usize),
     Diagram(usize),

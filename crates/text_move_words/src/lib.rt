@@ -21,10 +21,10 @@ fn put_place(area: &mut [u8], at: usize, word: &[u8], field: usize, object: usiz
 
 // What a record says that its thread does, at most 100 bytes.
 pub fn put_move(area: &mut [u8], at: usize, columns: Columns) -> usize
-    requires fact_1 { Narrow columns }
-    requires fact_2 { at + 100 ≤ length area.old }
-    ensures fact_1 { Wrote area.old at (record_words (record_of columns)) area.new result }
-    ensures fact_2 { result ≤ at + 100 }
+    requires narrow { Narrow columns }
+    requires room { at + 100 ≤ length area.old }
+    ensures wrote { Wrote area.old at (record_words (record_of columns)) area.new result }
+    ensures within { result ≤ at + 100 }
 {
     let kind = columns.kind;
     let field = columns.field;

@@ -10,7 +10,7 @@ use Rattle.format.specs.Area.{overwrite}
 use Rattle.format.specs.Refusal.{Refusal}
 use Rattle.plan_refusals.specs.declared.Checked.{Checked}
 use Rattle.plan_refusals.specs.declared.Checked.TheVariants as checked
-use Rattle.plan_packed.specs.Trees.{program_of_lem}
+use Rattle.plan_packed.specs.Trees.{program_of}
 use Rattle.plan_packed.proofs.Decoded.{well_formed}
 use Rattle.log_records.specs.Record.{Record}
 use Rattle.log_records.specs.Packed.{log_of}
@@ -71,7 +71,7 @@ module _ (plan schedule lent area : List ℕ) (p : Played) (h : answered p ≡ p
     log_is =
         ap log_of (begins plan schedule lent p h e after left n q)
         ∙ log_of_bytes_of (log (run_of plan schedule))
-        (tidy_play (program_of_lem plan) (well_formed plan (passes plan schedule lent p h e).plan_passes) schedule).all_tidy
+        (tidy_play (program_of plan) (well_formed plan (passes plan schedule lent p h e).plan_passes) schedule).all_tidy
 
     shots_are :
         shots_of (take (n - 0) after) p.outcome.stop p.outcome.picks p.outcome.moves p.outcome.records ≡ shot_lines
@@ -98,13 +98,13 @@ module _ (plan schedule lent area : List ℕ) (p : Played) (h : answered p ≡ p
       last_is : suc (p.outcome.records - 1) ≡ length (log (run_of plan schedule))
       last_is = omega (arith, recorded, records_are plan schedule lent p h e)
 
-      unordered : Unordered (program_of_lem plan).version (log (run_of plan schedule)) (p.outcome.records - 1)
+      unordered : Unordered (program_of plan).version (log (run_of plan schedule)) (p.outcome.records - 1)
       unordered =
           raced_unordered (agreement plan schedule (passes plan schedule lent p h e).plan_passes (passes plan schedule lent p h e).few) raced
           (p.outcome.records - 1) last_is
 
-      unordered_bytes : Unordered (program_of_lem plan).version (log_of (take (n - 0) after)) (p.outcome.records - 1)
-      unordered_bytes = along (λ (L : List Record). Unordered (program_of_lem plan).version L (p.outcome.records - 1)) (sym log_is) unordered
+      unordered_bytes : Unordered (program_of plan).version (log_of (take (n - 0) after)) (p.outcome.records - 1)
+      unordered_bytes = along (λ (L : List Record). Unordered (program_of plan).version L (p.outcome.records - 1)) (sym log_is) unordered
 
     raced_by : p.outcome.stop ≡ stop.Race → (run_of plan schedule).stop ≡ run.Stop.race
     unfolding stop_of
@@ -113,7 +113,7 @@ module _ (plan schedule lent area : List ℕ) (p : Played) (h : answered p ≡ p
     pub raced_last : p.outcome.stop ≡ stop.Race → (1 ≤ p.outcome.records) × HasLast (take (n - 0) after) (p.outcome.records - 1)
     raced_last k = (recorded (raced_by k), has_last (take (n - 0) after) (p.outcome.records - 1) (unordered_bytes (raced_by k)))
 
-    told_by : {t late : List ℕ} {r : ℕ} → Wrote area 0 t late r → RunTold (program_of_lem plan).version (run_of plan schedule) t
+    told_by : {t late : List ℕ} {r : ℕ} → Wrote area 0 t late r → RunTold (program_of plan).version (run_of plan schedule) t
         → PlayTold plan schedule area (Answer.value r) late
     unfolding overwrite
     told_by {t} {late} {r} w told =
@@ -139,7 +139,7 @@ module _ (plan schedule lent area : List ℕ) (p : Played) (h : answered p ≡ p
             on (λ x. let z : run.Stop.no_room (room_of m) ≡ run.Stop.race = ap stop_of (sym k) ∙ stop_is plan schedule lent p h e ∙ x in absurd (true≢false cc))
             (λ x. let z : stop.NoRoom m ≡ stop.Race = sym k ∙ x in absurd (true≢false cc))
         go stop.Race k =
-            told_by (added_as texts_are (w.races k (program_of_lem plan).version (unordered_bytes (raced_by k))))
+            told_by (added_as texts_are (w.races k (program_of plan).version (unordered_bytes (raced_by k))))
             (races (raced_by k) (last_is (raced_by k)) (unordered (raced_by k)))
           where
             texts_are :

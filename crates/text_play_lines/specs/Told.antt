@@ -4,7 +4,7 @@ use Rattle.std.proofs.Math.Option.{some, none}
 use Rattle.format.specs.Area.{overwrite}
 use Rattle.format.specs.Refusal.{Refusal}
 use Rattle.format.specs.Version.{Version}
-use Rattle.plan_packed.specs.Trees.{program_of_lem}
+use Rattle.plan_packed.specs.Trees.{program_of}
 use Rattle.log_order.specs.Chains.{Unordered}
 use Rattle.rules.specs.Run.{race, Run, instances, log}
 use Rattle.rules.specs.Play.{schedule_refusal, run_of}
@@ -30,5 +30,5 @@ pub data PlayTold (plan schedule area : List ℕ) : Answer → List ℕ → Type
   short : length area < 131072 → PlayTold plan schedule area (Answer.value 0) area
   refuses : {r : Refusal} → 131072 ≤ length area → schedule_refusal plan schedule ≡ some r → PlayTold plan schedule area (Answer.refused r) area
   tells : {text : List ℕ}
-      → 131072 ≤ length area → schedule_refusal plan schedule ≡ none → RunTold (program_of_lem plan).version (run_of plan schedule) text
+      → 131072 ≤ length area → schedule_refusal plan schedule ≡ none → RunTold (program_of plan).version (run_of plan schedule) text
       → PlayTold plan schedule area (Answer.value (length text)) (overwrite text area)

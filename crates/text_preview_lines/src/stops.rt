@@ -9,8 +9,8 @@ use run_outcome::{NoRoom, Stop};
 // What there is no room for, at most 100 bytes.
 pub fn put_room(area: &mut [u8], at: usize, room: NoRoom) -> usize
     requires { at + 100 ≤ length area.old }
-    ensures fact_1 { Wrote area.old at (room_words (room_of room)) area.new result }
-    ensures fact_2 { result ≤ at + 100 }
+    ensures wrote { Wrote area.old at (room_words (room_of room)) area.new result }
+    ensures within { result ≤ at + 100 }
 {
     match room {
         NoRoom::Thread => text::put_word(area, at, b"no room for a thread"),
@@ -23,8 +23,8 @@ pub fn put_room(area: &mut [u8], at: usize, room: NoRoom) -> usize
 // Why a run stopped, at most 100 bytes.
 pub fn put_stop(area: &mut [u8], at: usize, stop: Stop) -> usize
     requires { at + 100 ≤ length area.old }
-    ensures fact_1 { Wrote area.old at (stop_words (stop_of stop)) area.new result }
-    ensures fact_2 { result ≤ at + 100 }
+    ensures wrote { Wrote area.old at (stop_words (stop_of stop)) area.new result }
+    ensures within { result ≤ at + 100 }
 {
     match stop {
         Stop::End => text::put_word(area, at, b"its end"),

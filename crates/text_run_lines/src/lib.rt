@@ -12,8 +12,8 @@ use run_outcome::Stop;
 // A line for each record of a log. None is over 28 bytes.
 fn put_log(area: &mut [u8], log: &[u8]) -> usize
     requires { (length log.now ≤ 12288) × (131072 ≤ length area.old) }
-    ensures fact_1 { Wrote area.old 0 (record_lines 0 (log_of log.now)) area.new result }
-    ensures fact_2 { result ≤ 114688 }
+    ensures wrote { Wrote area.old 0 (record_lines 0 (log_of log.now)) area.new result }
+    ensures within { result ≤ 114688 }
 {
     let mut at = 0;
     let mut index = 0;

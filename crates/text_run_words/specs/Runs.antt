@@ -2,7 +2,7 @@
 use Rattle.std.specs.Prelude.{ℕ, ◌≡◌, List}
 use Rattle.std.proofs.Math.Option.{some, none}
 use Rattle.format.specs.Refusal.{Refusal}
-use Rattle.plan_packed.specs.Trees.{program_of_lem}
+use Rattle.plan_packed.specs.Trees.{program_of}
 use Rattle.log_records.specs.Packed.{bytes_of}
 use Rattle.rules.specs.Run.{log}
 use Rattle.rules.specs.Play.{schedule_refusal, run_of}
@@ -17,7 +17,7 @@ use Rattle.text_answer_lines.specs.Texts.{text_by}
 -- play: the lines of the run, and of a race its two records
 pub data PlayText (plan schedule : List ℕ) : List ℕ → Type 0 where
   refuses : {r : Refusal} → schedule_refusal plan schedule ≡ some r → PlayText plan schedule (refusal_lines r)
-  tells : {text : List ℕ} → schedule_refusal plan schedule ≡ none → RunTold (program_of_lem plan).version (run_of plan schedule) text → PlayText plan schedule text
+  tells : {text : List ℕ} → schedule_refusal plan schedule ≡ none → RunTold (program_of plan).version (run_of plan schedule) text → PlayText plan schedule text
 
 -- states: a line to each thread of the run
 unfoldable pub threads_text : List ℕ → List ℕ → List ℕ

@@ -2,7 +2,7 @@
 use Rattle.std.specs.Prelude.{ℕ, ◌<◌, ◌≡◌, true, false, List, [], ◌∷◌, ◌++◌, length}
 use Rattle.std.proofs.Math.Option.{some, none}
 use Rattle.format.specs.Refusal.{Refusal}
-use Rattle.plan_packed.specs.Trees.{program_of_lem}
+use Rattle.plan_packed.specs.Trees.{program_of}
 use Rattle.text.specs.Text.{ascii, decimal}
 use Rattle.text_refusal_lines.specs.Lines.{refusal_lines}
 use Rattle.answers.specs.Answer.{Answer}
@@ -30,7 +30,7 @@ charge_text plan schedule = charge_lines (charged plan schedule false) (charged 
 -- there is none
 pub data WitnessText (plan schedule : List ℕ) : List ℕ → Type 0 where
   refuses : {r : Refusal} → race_refusal plan schedule ≡ some r → WitnessText plan schedule (refusal_lines r)
-  too_long : {qs : List ℕ} → race_refusal plan schedule ≡ none → Written (program_of_lem plan) schedule qs → 4096 < length qs
+  too_long : {qs : List ℕ} → race_refusal plan schedule ≡ none → Written (program_of plan) schedule qs → 4096 < length qs
       → WitnessText plan schedule (refusal_lines (record { number = 17; place = 0 }))
-  shows : {qs : List ℕ} → race_refusal plan schedule ≡ none → (w : Written (program_of_lem plan) schedule qs) → SideBySide (program_of_lem plan) schedule qs w
+  shows : {qs : List ℕ} → race_refusal plan schedule ≡ none → (w : Written (program_of plan) schedule qs) → SideBySide (program_of plan) schedule qs w
       → WitnessText plan schedule (digit_line qs)

@@ -10,7 +10,7 @@ use borrow.Author.Tests.{eq-eqb, ne_eqb}
 use Rattle.format.proofs.Ranges.{by_range}
 use Rattle.log_records.specs.Record.{Kind, acquire, release, Record}
 use Rattle.log_records.specs.Packed.{kinds, kind_of}
-use Rattle.text_sample_lines.specs.DataFile.{of_monitor, last_of_lem, one_if_acquire, digital}
+use Rattle.text_sample_lines.specs.DataFile.{of_monitor, last_of, one_if_acquire, digital}
 
 -- what a record says of object o
 abbrev said : ℕ → Record → Option Kind
@@ -26,12 +26,12 @@ unfolding or_else
 or_assoc none y z = refl
 or_assoc (some k) y z = refl
 
-last_more : (o : ℕ) (L : List Record) (r : Record) → last_of_lem o (L ++ (r ∷ [])) ≡ or_else (said o r) (last_of_lem o L)
-unfolding last_of_lem or_else
+last_more : (o : ℕ) (L : List Record) (r : Record) → last_of o (L ++ (r ∷ [])) ≡ or_else (said o r) (last_of o L)
+unfolding last_of or_else
 last_more o [] r = or_none (said o r)
-last_more o (q ∷ L) r = ap (λ (x : Option Kind). or_else x (said o q)) (last_more o L r) ∙ or_assoc (said o r) (last_of_lem o L) (said o q)
+last_more o (q ∷ L) r = ap (λ (x : Option Kind). or_else x (said o q)) (last_more o L r) ∙ or_assoc (said o r) (last_of o L) (said o q)
 
-digital_more : (o : ℕ) (L : List Record) (r : Record) → digital o (L ++ (r ∷ [])) ≡ one_if_acquire (or_else (said o r) (last_of_lem o L))
+digital_more : (o : ℕ) (L : List Record) (r : Record) → digital o (L ++ (r ∷ [])) ≡ one_if_acquire (or_else (said o r) (last_of o L))
 unfolding digital
 digital_more o L r = ap one_if_acquire (last_more o L r)
 
@@ -41,15 +41,15 @@ module _ (o : ℕ) (L : List Record) (r : Record) where
 
   pub taken_one : r.kind ≡ acquire → r.object ≡ o → digital o (L ++ (r ∷ [])) ≡ 1
   unfolding or_else
-  taken_one e h = digital_more o L r ∙ ap (λ (x : Option Kind). one_if_acquire (or_else x (last_of_lem o L))) (said_own acquire e refl h)
+  taken_one e h = digital_more o L r ∙ ap (λ (x : Option Kind). one_if_acquire (or_else x (last_of o L))) (said_own acquire e refl h)
 
   pub freed_zero : r.kind ≡ release → r.object ≡ o → digital o (L ++ (r ∷ [])) ≡ 0
   unfolding or_else
-  freed_zero e h = digital_more o L r ∙ ap (λ (x : Option Kind). one_if_acquire (or_else x (last_of_lem o L))) (said_own release e refl h)
+  freed_zero e h = digital_more o L r ∙ ap (λ (x : Option Kind). one_if_acquire (or_else x (last_of o L))) (said_own release e refl h)
 
   unsaid : (of_monitor r.kind && eqb r.object o) ≡ false → digital o (L ++ (r ∷ [])) ≡ digital o L
   unfolding or_else digital
-  unsaid e = digital_more o L r ∙ ap (λ (b : Bool). one_if_acquire (or_else (cond b (some r.kind) none) (last_of_lem o L))) e
+  unsaid e = digital_more o L r ∙ ap (λ (b : Bool). one_if_acquire (or_else (cond b (some r.kind) none) (last_of o L))) e
 
   pub other_object : (r.object ≡ o → ⊥) → digital o (L ++ (r ∷ [])) ≡ digital o L
   other_object h = unsaid (ap (λ (b : Bool). of_monitor r.kind && b) (ne_eqb r.object o h) ∙ and_false (of_monitor r.kind))

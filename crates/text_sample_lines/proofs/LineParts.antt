@@ -9,7 +9,7 @@ use mathlib.Core.Option.{Option, some, none}
 use Rattle.log_records.specs.Record.{Kind, new, read, write, readv, writev, acquire, release, fork, join, lacks_read, lacks_write, Record}
 use Rattle.text.specs.Text.{decimal}
 use Rattle.text.proofs.Decimals.{decimal_digit}
-use Rattle.text_sample_lines.specs.DataFile.{one_if_acquire, last_of_lem, digital, comma_line, digitals_from, sample_line}
+use Rattle.text_sample_lines.specs.DataFile.{one_if_acquire, last_of, digital, comma_line, digitals_from, sample_line}
 use Rattle.text_sample_lines.specs.Inner.LineEnds.{values_to, end_of, line_of}
 use Rattle.text_sample_lines.proofs.LineEnds.{end_length}
 
@@ -51,7 +51,7 @@ digitals_more o (suc n) L =
 -- a digital value is 0 or 1
 digital_below : (o : ℕ) (L : List Record) → digital o L < 2
 unfolding digital
-digital_below o L = go (last_of_lem o L)
+digital_below o L = go (last_of o L)
   where
     go : (k : Option Kind) → one_if_acquire k < 2
     go none = omega arith

@@ -21,10 +21,10 @@ of_monitor lacks_read = false
 of_monitor lacks_write = false
 
 -- the kind of "the last acquire or release of object o" among these records, if there is one
-unfoldable pub last_of_lem : ℕ → List Record → Option Kind
+unfoldable pub last_of : ℕ → List Record → Option Kind
 unfolding or_else
-last_of_lem o [] = none
-last_of_lem o (r ∷ L) = or_else (last_of_lem o L) (cond (of_monitor r.kind && eqb r.object o) (some r.kind) none)
+last_of o [] = none
+last_of o (r ∷ L) = or_else (last_of o L) (cond (of_monitor r.kind && eqb r.object o) (some r.kind) none)
 
 -- 1 exactly when it "is an acquire, and else 0"
 abbrev pub one_if_acquire : Option Kind → ℕ
@@ -43,8 +43,8 @@ one_if_acquire (some lacks_write) = 0
 
 -- digital value o after these records
 unfoldable pub digital : ℕ → List Record → ℕ
-unfolding last_of_lem
-digital o L = one_if_acquire (last_of_lem o L)
+unfolding last_of
+digital o L = one_if_acquire (last_of o L)
 
 -- ---- lines
 

@@ -54,8 +54,8 @@ pub fn put_next_sample(
     end: &mut [u8],
     columns: Columns,
 ) -> usize
-    requires fact_1 { (0 < number) × (number ≤ 4096) × (at + length (line_of number end.old) ≤ length area.old) }
-    requires fact_2 { Narrow columns × (length end.old ≡ 66) }
+    requires numbered { (0 < number) × (number ≤ 4096) × (at + length (line_of number end.old) ≤ length area.old) }
+    requires narrow { Narrow columns × (length end.old ≡ 66) }
     ensures { (L : List Record) → end.old ≡ end_of L → Extended L (record_of columns) area.old at number area.new
         end.new result }
 {

@@ -5,7 +5,7 @@ use mathlib.Core.List.{List, ◌++◌}
 use lib.ListN.{take}
 use Rattle.plan_refusals.specs.declared.Checked.{Checked}
 use Rattle.plan_refusals.specs.declared.Checked.TheVariants as checked
-use Rattle.plan_packed.specs.Trees.{program_of_lem}
+use Rattle.plan_packed.specs.Trees.{program_of}
 use Rattle.plan_packed.proofs.Decoded.{well_formed}
 use Rattle.log_records.specs.Record.{Record}
 use Rattle.log_records.specs.Packed.{log_of}
@@ -38,7 +38,7 @@ module _ (plan schedule : List ℕ) (p : Played) (h : answered p ≡ played plan
     log_is n q =
         ap log_of (begins plan schedule lent_area p h e after left n q)
         ∙ log_of_bytes_of (log (run_of plan schedule))
-        (tidy_play (program_of_lem plan) (well_formed plan (passes plan schedule lent_area p h e).plan_passes) schedule).all_tidy
+        (tidy_play (program_of plan) (well_formed plan (passes plan schedule lent_area p h e).plan_passes) schedule).all_tidy
 
     pub ran_text : (n : ℕ) → n ≡ 3 * p.outcome.records
         → record_lines 0 (log_of (take (n - 0) after)) ++ outcome_line (stop_of p.outcome.stop) p.outcome.picks p.outcome.moves

@@ -11,7 +11,7 @@ use Rattle.format.specs.Refusal.{Refusal}
 use Rattle.plan_refusals.specs.declared.Checked.{Checked}
 use Rattle.plan_refusals.specs.declared.Checked.TheVariants as checked
 use Rattle.plan_packed.specs.Syntax.{Program}
-use Rattle.plan_packed.specs.Trees.{program_of_lem}
+use Rattle.plan_packed.specs.Trees.{program_of}
 use Rattle.rules.specs.State.{State}
 use Rattle.rules.specs.Run as run
 use Rattle.run_outcome.specs.declared.Thread.{Thread}
@@ -62,7 +62,7 @@ module _ (plan schedule lent area : List ℕ) (p : Played) (h : answered p ≡ p
     eight =
         sym (length-map p.outcome.threads (λ (t : Thread). status_of t.state))
         ∙ ap (λ (o : run.Outcome). length o.threads) (outcome_is plan schedule lent p h e)
-        ∙ statuses_count (program_of_lem plan) (run_of plan schedule).final 0 8
+        ∙ statuses_count (program_of plan) (run_of plan schedule).final 0 8
 
     text_is : thread_lines 0 p.outcome.threads ≡ states_text plan schedule
     unfolding states_text outcome_of

@@ -3,7 +3,7 @@ use Rattle.std.specs.Prelude.{ℕ, ◌≤◌, ◌<◌, ◌≡◌, List, length}
 use Rattle.std.proofs.Math.Option.{some, none}
 use Rattle.format.specs.Area.{overwrite}
 use Rattle.format.specs.Refusal.{Refusal}
-use Rattle.plan_packed.specs.Trees.{program_of_lem}
+use Rattle.plan_packed.specs.Trees.{program_of}
 use Rattle.rules.specs.Run.{outcome_of}
 use Rattle.rules.specs.Play.{schedule_refusal, run_of}
 use Rattle.answers.specs.Answer.{Answer}
@@ -12,7 +12,7 @@ use Rattle.text_state_lines.specs.Lines.{state_lines}
 -- the lines of the threads as the run of a schedule on a plan leaves them
 unfoldable pub states_text : List ℕ → List ℕ → List ℕ
 states_text plan schedule =
-    state_lines 0 (outcome_of (program_of_lem plan) (run_of plan schedule)).threads (outcome_of (program_of_lem plan) (run_of plan schedule)).totals
+    state_lines 0 (outcome_of (program_of plan) (run_of plan schedule)).threads (outcome_of (program_of plan) (run_of plan schedule)).totals
 
 -- the answer and the lent area afterwards. An area of 2,048 bytes or more has room for every text, and keeps its old bytes after it; a shorter one stays as
 -- it was, and the answer is 0

@@ -15,8 +15,8 @@ use run_outcome::{Thread, ThreadState};
 // The line of a thread that is there, with its total: at most 163 bytes.
 fn put_present(area: &mut [u8], at: usize, index: usize, state: ThreadState, learnt: usize) -> usize
     requires { at + 163 ≤ length area.old }
-    ensures fact_1 { Wrote area.old at (present_line index (status_of state) learnt) area.new result }
-    ensures fact_2 { result ≤ at + 163 }
+    ensures wrote { Wrote area.old at (present_line index (status_of state) learnt) area.new result }
+    ensures within { result ≤ at + 163 }
 {
     let at = text_phrases::put_phrase(area, at, b"thread ", index);
     let at = text_status_words::put_status(area, at, state);
@@ -44,8 +44,8 @@ fn absent(state: ThreadState) -> bool
 // The line of a thread, if it is there.
 fn put_thread(area: &mut [u8], at: usize, index: usize, thread: Thread) -> usize
     requires { at + 163 ≤ length area.old }
-    ensures fact_1 { Wrote area.old at (state_line index (status_of thread.state) thread.learnt) area.new result }
-    ensures fact_2 { result ≤ at + 163 }
+    ensures wrote { Wrote area.old at (state_line index (status_of thread.state) thread.learnt) area.new result }
+    ensures within { result ≤ at + 163 }
 {
     let state = thread.state;
     if absent(state) {

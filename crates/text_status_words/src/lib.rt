@@ -11,8 +11,8 @@ use text_phrase_pairs::put_two;
 // What a waiting thread waits for.
 fn put_wait(area: &mut [u8], at: usize, wait: Wait) -> usize
     requires { at + 100 ≤ length area.old }
-    ensures fact_1 { Wrote area.old at (wait_words (wait_of wait)) area.new result }
-    ensures fact_2 { result ≤ at + 100 }
+    ensures wrote { Wrote area.old at (wait_words (wait_of wait)) area.new result }
+    ensures within { result ≤ at + 100 }
 {
     match wait {
         Wait::Monitor { object } => {
@@ -35,8 +35,8 @@ fn put_wait(area: &mut [u8], at: usize, wait: Wait) -> usize
 // Why a thread is stuck.
 fn put_stuck(area: &mut [u8], at: usize, stuck: Stuck) -> usize
     requires { at + 100 ≤ length area.old }
-    ensures fact_1 { Wrote area.old at (stuck_words (stuck_of stuck)) area.new result }
-    ensures fact_2 { result ≤ at + 100 }
+    ensures wrote { Wrote area.old at (stuck_words (stuck_of stuck)) area.new result }
+    ensures within { result ≤ at + 100 }
 {
     match stuck {
         Stuck::Field { object, field } => put_two(
@@ -68,8 +68,8 @@ fn put_stuck(area: &mut [u8], at: usize, stuck: Stuck) -> usize
 // Any state: at most 100 bytes.
 pub fn put_status(area: &mut [u8], at: usize, state: ThreadState) -> usize
     requires { at + 100 ≤ length area.old }
-    ensures fact_1 { Wrote area.old at (status_words (status_of state)) area.new result }
-    ensures fact_2 { result ≤ at + 100 }
+    ensures wrote { Wrote area.old at (status_words (status_of state)) area.new result }
+    ensures within { result ≤ at + 100 }
 {
     match state {
         ThreadState::Absent => text::put_word(area, at, b" is absent"),

@@ -10,7 +10,7 @@ use Rattle.format.specs.Version.{v1}
 use Rattle.format.specs.Area.{overwrite}
 use Rattle.format.proofs.AreaLaws.{overwrite_first, overwrite_covers}
 use Rattle.plan_packed.specs.Format.{terms}
-use Rattle.plan_packed.specs.Trees.{program_of_lem}
+use Rattle.plan_packed.specs.Trees.{program_of}
 use Rattle.plan_packed.specs.Check.{refusal}
 use Rattle.plan_packed.proofs.Decoded.{well_formed}
 use Rattle.log_records.specs.Record.{Record}
@@ -56,7 +56,7 @@ inner_log = replicate 12288 0
 
 module _ {plan words schedule : List ℕ} (P : Passing plan words schedule) where
   abbrev L : List Record
-  L = moves_of (program_of_lem plan) schedule
+  L = moves_of (program_of plan) schedule
 
   abbrev ok : refusal plan ≡ none
   ok = P.loads.passes
@@ -68,7 +68,7 @@ module _ {plan words schedule : List ℕ} (P : Passing plan words schedule) wher
       record { plan_passes = ok; loaded = P.loads.loaded; few = s.few; small = s.small; wide = omega (arith, s.few, n) }
 
   few_moves : length L ≤ 4096
-  few_moves = omega (arith, (tidy_moves (program_of_lem plan) (well_formed plan ok) schedule).1, (scheduled plan schedule P.scheduled).few)
+  few_moves = omega (arith, (tidy_moves (program_of plan) (well_formed plan ok) schedule).1, (scheduled plan schedule P.scheduled).few)
 
   -- ---- the log after the run
 
@@ -102,7 +102,7 @@ module _ {plan words schedule : List ℕ} (P : Passing plan words schedule) wher
       -- the bytes are those of the moves
       module _ (b : List ℕ) (q : b ≡ bytes_of L) where
         its_moves : log_of b ≡ L
-        its_moves = ap log_of q ∙ log_of_bytes_of L (tidy_moves (program_of_lem plan) (well_formed plan ok) schedule).0
+        its_moves = ap log_of q ∙ log_of_bytes_of L (tidy_moves (program_of plan) (well_formed plan ok) schedule).0
 
         its_length : length b / 3 ≡ length L
         its_length = sym (length_log b) ∙ ap length its_moves

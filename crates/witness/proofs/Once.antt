@@ -8,7 +8,7 @@ use mathlib.Core.Option.{some, none, none-ne-some}
 use lib.ListN.{length}
 use Rattle.format.specs.Refusal.{Refusal}
 use Rattle.format.specs.Area.{overwrite}
-use Rattle.plan_packed.specs.Trees.{program_of_lem}
+use Rattle.plan_packed.specs.Trees.{program_of}
 use Rattle.answers.specs.Answer.{Answer}
 use Rattle.side_by_side.specs.Moves.{moves_of}
 use Rattle.side_by_side.proofs.Written.{written_once}
@@ -21,11 +21,11 @@ module _ (plan schedule area : List ℕ) where
   witnessed_once (refused {r} e) (wrote n w s h) = absurd (none-ne-some r (sym n ∙ e))
   witnessed_once (too_short n w h) (refused {r} e) = absurd (none-ne-some r (sym n ∙ e))
   witnessed_once (too_short n w h) (too_short m v k) = (refl, refl)
-  witnessed_once (too_short {qs} n w h) (wrote {qs = ps} m v s k) = let e = ap length (written_once (moves_of (program_of_lem plan) schedule) qs ps w v) in
+  witnessed_once (too_short {qs} n w h) (wrote {qs = ps} m v s k) = let e = ap length (written_once (moves_of (program_of plan) schedule) qs ps w v) in
       absurd (omega arith)
   witnessed_once (wrote n w s h) (refused {r} e) = absurd (none-ne-some r (sym n ∙ e))
-  witnessed_once (wrote {qs} n w s h) (too_short {qs = ps} m v k) = let e = ap length (written_once (moves_of (program_of_lem plan) schedule) qs ps w v) in
+  witnessed_once (wrote {qs} n w s h) (too_short {qs = ps} m v k) = let e = ap length (written_once (moves_of (program_of plan) schedule) qs ps w v) in
       absurd (omega arith)
   witnessed_once (wrote {qs} n w s h) (wrote {qs = ps} m v t k) =
-      let e : qs ≡ ps = written_once (moves_of (program_of_lem plan) schedule) qs ps w v in
+      let e : qs ≡ ps = written_once (moves_of (program_of plan) schedule) qs ps w v in
       (ap (λ (q : List ℕ). Answer.value (length q)) e, ap (λ (q : List ℕ). overwrite q area) e)

@@ -11,7 +11,7 @@ use Rattle.format.specs.Refusal.{Refusal, or_else, first_refusal}
 use Rattle.format.specs.Area.{overwrite}
 use Rattle.format.proofs.AreaLaws.{overwrite_first}
 use Rattle.format.proofs.RefusalLaws.{both_none, none_is_pass, none_left, and_then}
-use Rattle.plan_packed.specs.Trees.{program_of_lem}
+use Rattle.plan_packed.specs.Trees.{program_of}
 use Rattle.plan_packed.specs.Check.{refusal}
 use Rattle.rules.specs.State.{start}
 use Rattle.rules.specs.Run as run
@@ -81,7 +81,7 @@ module _ (plan qs log : List ℕ) (passes : refusal plan ≡ none) (few : length
   module _ (p : Played) (h : answered p ≡ played plan qs log) where
     pub runs : p.checked ≡ checked.Passed
     unfolding answered played played_by
-    runs = ran_passed p.checked p.outcome (run.outcome_of (program_of_lem plan) (run_of plan qs)) (h ∙ ap (played_by plan qs) none_refuses)
+    runs = ran_passed p.checked p.outcome (run.outcome_of (program_of plan) (run_of plan qs)) (h ∙ ap (played_by plan qs) none_refuses)
 
 -- ---- what was written
 
@@ -93,8 +93,8 @@ below l h i b = let z = h i (get_or l i 0) (there l i b) in omega arith
     there (x ∷ l) zero b = refl
     there (x ∷ l) (suc i) b = there l i (omega arith)
 
-module _ (plan schedule qs log : List ℕ) (passes : refusal plan ≡ none) (few : length schedule ≤ 4096) (w : Written (program_of_lem plan) schedule qs)
-    (s : SideBySide (program_of_lem plan) schedule qs w)
+module _ (plan schedule qs log : List ℕ) (passes : refusal plan ≡ none) (few : length schedule ≤ 4096) (w : Written (program_of plan) schedule qs)
+    (s : SideBySide (program_of plan) schedule qs w)
     (wide : 3 * length qs ≤ length log) (p : Played) (h : answered p ≡ played plan qs log) where
   ran : p.checked ≡ checked.Passed
   ran = runs plan qs log passes (let b = s.no_longer in omega arith) (below qs s.below_8) wide p h
@@ -108,7 +108,7 @@ module _ (plan schedule qs log : List ℕ) (passes : refusal plan ≡ none) (few
   through = record {
     passes = ran;
     ends = end_is p.outcome.stop (stop_is plan qs log p h ran ∙ its_stop);
-    picks = ap (λ (o : run.Outcome). o.picks) (outcome_is plan qs log p h ran) ∙ all_dealt_with (program_of_lem plan) start qs s.ends;
+    picks = ap (λ (o : run.Outcome). o.picks) (outcome_is plan qs log p h ran) ∙ all_dealt_with (program_of plan) start qs s.ends;
     moves = moves_are plan qs log p h ran ∙ s.every_pick_moves;
   }
 
@@ -125,8 +125,8 @@ written_plays plan schedule area (wrote {qs} e w s le) log wide p h =
 -- where two threads' next moves conflict after a run not stopped, and the write would not stop for room: a play of the run's picks, the writer and the other
 -- stops for a missing key, if it is not refused
 pub conflict_plays : (plan schedule log : List ℕ) → refusal plan ≡ none → (run_of plan schedule).stop ≡ Stop.end → (p q : ℕ)
-    → Conflict (program_of_lem plan) (run_of plan schedule).final p q
-    → HasRoom (program_of_lem plan) (run_of plan schedule).final p → (r : Played) → answered r ≡ played plan (schedule ++ (p ∷ q ∷ [])) log
+    → Conflict (program_of plan) (run_of plan schedule).final p q
+    → HasRoom (program_of plan) (run_of plan schedule).final p → (r : Played) → answered r ≡ played plan (schedule ++ (p ∷ q ∷ [])) log
     → r.checked ≡ checked.Passed
     → r.outcome.stop ≡ stop.Race
 conflict_plays plan schedule log passes e p q c room r h k =

@@ -3,7 +3,7 @@ use Rattle.std.specs.Prelude.{ℕ, ◌<◌, ◌≤◌, ◌≡◌, Bool, true, fa
 use Rattle.std.proofs.Math.Option.{Option, some, none}
 use Rattle.format.specs.Refusal.{Refusal, Check, check_whole, first_refusal}
 use Rattle.format.specs.Area.{overwrite}
-use Rattle.plan_packed.specs.Trees.{program_of_lem}
+use Rattle.plan_packed.specs.Trees.{program_of}
 use Rattle.rules.specs.Run.{Stop}
 use Rattle.rules.specs.Play.{schedule_checks, run_of}
 use Rattle.side_by_side.specs.LeftOut.{left_out}
@@ -35,9 +35,9 @@ pub data Witnesses (plan schedule area : List ℕ) : Answer → List ℕ → Typ
   -- "no area changes" (document 01) where something refuses
   refused : {r : Refusal} → race_refusal plan schedule ≡ some r → Witnesses plan schedule area (Answer.refused r) area
   -- "17 output shorter than the schedule to be written"
-  too_short : {qs : List ℕ} → race_refusal plan schedule ≡ none → Written (program_of_lem plan) schedule qs → length area < length qs
+  too_short : {qs : List ℕ} → race_refusal plan schedule ≡ none → Written (program_of plan) schedule qs → length area < length qs
       → Witnesses plan schedule area (Answer.refused (record { number = 17; place = 0 })) area
   -- "write a schedule [..] Played, every pick moves, and at its end [..]"; "Bytes past the written schedule keep their values."
-  wrote : {qs : List ℕ} → race_refusal plan schedule ≡ none → (w : Written (program_of_lem plan) schedule qs) → SideBySide (program_of_lem plan) schedule qs w
+  wrote : {qs : List ℕ} → race_refusal plan schedule ≡ none → (w : Written (program_of plan) schedule qs) → SideBySide (program_of plan) schedule qs w
       → length qs ≤ length area
       → Witnesses plan schedule area (Answer.value (length qs)) (overwrite qs area)

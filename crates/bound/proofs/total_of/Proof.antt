@@ -1,4 +1,4 @@
--- `total_of_lem`: checks 21 to 23 in their order, each by its definition.
+-- `total_of`: checks 21 to 23 in their order, each by its definition.
 use mathlib.Core.Path.{◌≡◌, refl, sym, ap, ◌∙◌}
 use mathlib.Core.Bool.{Bool, true, false, not}
 use Prim.Native.Nat.{ℕ, ◌<◌}
@@ -6,7 +6,7 @@ use native.Mathlib.Omega.{arith}
 use borrow.Author.Rules.{rules}
 use borrow.Author.Tests.{not-true, not-false}
 use Rattle.run_keys.specs.Keys.{holds}
-use Rattle.plan_packed.specs.Trees.{program_of_lem}
+use Rattle.plan_packed.specs.Trees.{program_of}
 use Rattle.plan_packed.proofs.Accepted.{accepted}
 use Rattle.costs.specs.Calls.{cyclic}
 use Rattle.bound.proofs.Bodies.{few_procedures}

@@ -4,7 +4,7 @@ use Rattle.std.specs.Prelude.{ℕ, ◌^◌, ◌<◌, ◌≡◌, Bool, true, fals
 use Rattle.std.proofs.Math.Option.{none}
 use Rattle.run_keys.specs.Keys.{singleton, holds, subset}
 use Rattle.plan_packed.specs.Format.{procedures, terms}
-use Rattle.plan_packed.specs.Trees.{program_of_lem}
+use Rattle.plan_packed.specs.Trees.{program_of}
 use Rattle.plan_packed.specs.Check.{refusal}
 use Rattle.plan_packed.specs.Inner.Steps.{Loaded}
 use Rattle.costs.specs.Cost.{body_cost}
@@ -25,13 +25,13 @@ pub record Bits (n : ℕ) (bits : List ℕ) : Type 0 where
 
 -- the sets of the procedures that each of the first n calls
 pub record Called (b : List ℕ) (n : ℕ) (calls : List ℕ) : Type 0 where
-  pub each : (p : ℕ) → p < n → (q : ℕ) → q < 32 → holds (get_or calls p 0) q ≡ called (program_of_lem b) p q
+  pub each : (p : ℕ) → p < n → (q : ℕ) → q < 32 → holds (get_or calls p 0) q ≡ called (program_of b) p q
   pub small : (p : ℕ) → p < n → get_or calls p 0 < 2 ^ 32
 
 -- the costs of the procedures of a set, from each of which k calls do not lead on
 pub record SettledBy (b : List ℕ) (k done : ℕ) (costs : List ℕ) : Type 0 where
-  pub ends : (p : ℕ) → p < procedures b → holds done p ≡ true → leads_on (program_of_lem b) k p ≡ false
-  pub costs_are : (p : ℕ) → p < procedures b → holds done p ≡ true → get_or costs p 0 ≡ capped (body_cost (program_of_lem b) k p)
+  pub ends : (p : ℕ) → p < procedures b → holds done p ≡ true → leads_on (program_of b) k p ≡ false
+  pub costs_are : (p : ℕ) → p < procedures b → holds done p ≡ true → get_or costs p 0 ≡ capped (body_cost (program_of b) k p)
 
 -- the costs of the procedures of a set, from none of which calls lead on for ever
 pub record Settled (b : List ℕ) (done : ℕ) (costs : List ℕ) : Type 0 where

@@ -5,7 +5,7 @@ use mathlib.Core.Path.{subst as along}
 use mathlib.Core.List.{List}
 use lib.ListN.{take, replicate}
 use borrow.Author.Rules.{rules}
-use Rattle.plan_packed.specs.Trees.{program_of_lem}
+use Rattle.plan_packed.specs.Trees.{program_of}
 use Rattle.interleavings.specs.declared.Next.TheVariants as next
 use Rattle.interleavings.specs.Inner.Steps.{Followed}
 use Rattle.interleavings.proofs.Counting.{to_note, to_follow, at_end, written_fits, written_room, stands_next}
@@ -67,9 +67,9 @@ module _ (c : tie.After-known-told) where
   abbrev after : List ℕ
   after = c.before.before.before.before.following.new.1.1.1.1.1.0
 
-  written : Followed (program_of_lem began.args.plan.now) began.args.n given room after (next.Written c.before.next.given.0.0)
+  written : Followed (program_of began.args.plan.now) began.args.n given room after (next.Written c.before.next.given.0.0)
   written =
-      along (Followed (program_of_lem began.args.plan.now) began.args.n given room after) c.before.next.given.1
+      along (Followed (program_of began.args.plan.now) began.args.n given room after) c.before.next.given.1
       c.before.before.before.before.following.ensures
 
 sub-put-word : tie.Need-overflow-sub-put-word
@@ -107,7 +107,7 @@ returns_2 c =
     let f = c.before.before.before in
     let s = f.before.before.before.before.before.before.before.before.before.before.before.before in
     at_end s.requires _ _
-    (along (Followed (program_of_lem s.args.plan.now) s.args.n (take (s.args.picks - 0) s.args.area.now) _ _) c.enum_told.given.1
+    (along (Followed (program_of s.args.plan.now) s.args.n (take (s.args.picks - 0) s.args.area.now) _ _) c.enum_told.given.1
     f.following.ensures)
 
 same_length_3 : tie.Need-same-length-3
@@ -117,7 +117,7 @@ returns_3 : tie.Need-returns-3
 returns_3 c =
     let f = c.before.before.before.before in
     let s = f.before.before.before.before.before.before.before.before.before.before.before.before in
-    along (Followed (program_of_lem s.args.plan.now) s.args.n (take (s.args.picks - 0) s.args.area.now) _ _) c.before.next2.given.1
+    along (Followed (program_of s.args.plan.now) s.args.n (take (s.args.picks - 0) s.args.area.now) _ _) c.before.next2.given.1
     f.following.ensures
 
 pub advance-spec : {M : Type 1} → statement M

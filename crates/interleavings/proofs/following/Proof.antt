@@ -6,7 +6,7 @@ use mathlib.Core.List.{[], ◌∷◌, ◌++◌}
 use lib.ListN.{length, take}
 use borrow.Author.Rules.{rules}
 use Rattle.plan_packed.specs.Syntax.{Program}
-use Rattle.plan_packed.specs.Trees.{program_of_lem}
+use Rattle.plan_packed.specs.Trees.{program_of}
 use Rattle.text.specs.Inner.Wrote.{Wrote}
 use Rattle.text.proofs.Added.{added_more}
 use Rattle.run_place_notes.specs.Inner.Notes.{LastDeparture}
@@ -31,7 +31,7 @@ module _ (c : tie.After-known-told) where
   began = c.before.before.before.before.before.before.before.before
 
   abbrev g : Program
-  g = program_of_lem began.args.plan.now
+  g = program_of began.args.plan.now
 
   abbrev place : ℕ
   place = c.before.turn.given.0.0
@@ -92,7 +92,7 @@ go-on-requires c κs =
 returns : tie.Need-returns
 returns c =
     let s = c.before.before.before.before.before.before.before in
-    let g = program_of_lem s.args.plan.now in
+    let g = program_of s.args.plan.now in
     let t = along (LastDeparture s.args.notes.now (length s.args.schedule.now)) c.enum_told.given.1
     c.before.before.last-departure.ensures in (
       over g s.args.n s.args.schedule.now s.requires.listed

@@ -1,7 +1,7 @@
 -- `next_interleaving` meets its contract. Assumes nothing.
 use borrow.Author.Rules.{rules}
 use borrow.Author.Tests.{not-true, not-false}
-use Rattle.plan_packed.specs.Trees.{program_of_lem}
+use Rattle.plan_packed.specs.Trees.{program_of}
 use Rattle.listing.specs.Listed.{Listed}
 use Rattle.listing_answers.proofs.Answers.{next_refused_lem, next_over_bound, next_not_listed, next_short}
 use Rattle.interleavings.proofs.Answers.{given_plan_lem, given_picks, next_followed}
@@ -25,7 +25,7 @@ began c = c.before.before.before.before.before.before.before
 abbrev given : tie.Else2 → tie.Start
 given c = began c.before.before.before.before.before.before
 
-listed-one : (c : tie.Else2) → Listed (program_of_lem (given c).args.plan.now) (given c).args.n (given c).args.schedule.now
+listed-one : (c : tie.Else2) → Listed (program_of (given c).args.plan.now) (given c).args.n (given c).args.schedule.now
 listed-one c = c.before.before.listed.ensures.tells.0 (not-false _ c.if2.false)
 
 returns : tie.Need-returns

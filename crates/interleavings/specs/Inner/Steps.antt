@@ -4,7 +4,7 @@ use Rattle.std.proofs.Math.Option.{some}
 use Rattle.std.proofs.Math.ListN.{get_elem?}
 use Rattle.format.specs.Area.{overwrite}
 use Rattle.plan_packed.specs.Syntax.{Program}
-use Rattle.plan_packed.specs.Trees.{program_of_lem}
+use Rattle.plan_packed.specs.Trees.{program_of}
 use Rattle.listing.specs.Order.{AtMost}
 use Rattle.listing.specs.Listed as listing
 use Rattle.listing.specs.Listed.{Listed, Following}
@@ -26,7 +26,7 @@ pub record Begins (plan words : List ℕ) (n : ℕ) (area : List ℕ) (from : �
   pub bound : n ≤ 64
   pub long : n ≤ length area
   pub within : from ≤ n
-  pub way : Way (can_follow (program_of_lem plan)) (take from area)
+  pub way : Way (can_follow (program_of plan)) (take from area)
 
 -- the first `from` picks of an area, gone on with up to `at`: the same bytes past it, a listed schedule, and no listed one that is not before the first picks
 -- is before it
@@ -61,8 +61,8 @@ pub record Listing (plan words : List ℕ) (n : ℕ) (schedule notes area : List
   pub accepted : Accepted plan words
   pub bound : n ≤ 64
   pub long : n ≤ length area
-  pub listed : Listed (program_of_lem plan) n schedule
-  pub noted : Noted (program_of_lem plan) schedule notes
+  pub listed : Listed (program_of plan) n schedule
+  pub noted : Noted (program_of plan) schedule notes
 
 -- the following schedule is written, or the list is over
 abbrev pub Followed : Program → ℕ → List ℕ → List ℕ → List ℕ → Next → Type 0
@@ -78,17 +78,17 @@ pub record Stands (plan words : List ℕ) (n : ℕ) (area : List ℕ) (picks pla
   pub bound : n ≤ 64
   pub long : 64 ≤ length area
   pub few : picks ≤ 64
-  pub listed : Listed (program_of_lem plan) n (take picks area)
-  pub at_place : (L : List (List ℕ)) → WholeList (program_of_lem plan) n L → get_elem? L place ≡ some (take picks area)
+  pub listed : Listed (program_of plan) n (take picks area)
+  pub at_place : (L : List (List ℕ)) → WholeList (program_of plan) n L → get_elem? L place ≡ some (take picks area)
 
 -- after one step: the next schedule stands there, or the whole list ends here
 abbrev pub Advanced : (plan words : List ℕ) → ℕ → List ℕ → ℕ → Next → Type 0
 Advanced plan words n after place (next.Refused number at) = ⊥
 Advanced plan words n after place (next.Written picks) = Stands plan words n after picks (place + 1)
-Advanced plan words n after place next.Over = (L : List (List ℕ)) → WholeList (program_of_lem plan) n L → length L ≡ place + 1
+Advanced plan words n after place next.Over = (L : List (List ℕ)) → WholeList (program_of plan) n L → length L ≡ place + 1
 
 -- what counting on from the first schedule answers
 abbrev pub CountsOn : (plan : List ℕ) → (n limit : ℕ) → Counted → Type 0
 CountsOn plan n limit (counted.Refused number place) = ⊥
-CountsOn plan n limit (counted.All r) = ((L : List (List ℕ)) → WholeList (program_of_lem plan) n L → r ≡ length L) × (r ≤ limit)
-CountsOn plan n limit counted.More = (L : List (List ℕ)) → WholeList (program_of_lem plan) n L → limit < length L
+CountsOn plan n limit (counted.All r) = ((L : List (List ℕ)) → WholeList (program_of plan) n L → r ≡ length L) × (r ≤ limit)
+CountsOn plan n limit counted.More = (L : List (List ℕ)) → WholeList (program_of plan) n L → limit < length L

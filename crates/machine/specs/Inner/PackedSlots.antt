@@ -7,5 +7,5 @@ unfoldable pub slots_in : ℕ → Slots
 slots_in w x = w / 2 ^ (5 * x) % 32
 
 -- the number with v in slot x
-unfoldable pub put_in_lem : ℕ → ℕ → ℕ → ℕ
-put_in_lem w x v = w - w / 2 ^ (5 * x) % 32 * 2 ^ (5 * x) + v * 2 ^ (5 * x)
+unfoldable pub put_in : ℕ → ℕ → ℕ → ℕ
+put_in w x v = w - w / 2 ^ (5 * x) % 32 * 2 ^ (5 * x) + v * 2 ^ (5 * x)

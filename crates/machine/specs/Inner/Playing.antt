@@ -11,7 +11,7 @@ use Rattle.machine.specs.Inner.Frames.{no_slots, Ready, Found, height}
 use Rattle.machine.specs.Inner.Machine.{frames, State, Table, attempt}
 pub use Rattle.rules.specs.Room.{passed, race, no_room, moved}
 unfoldable pub use Rattle.rules.specs.Room.{no_room_before, deep, deep_at, any_deep, no_room_after, no_room_for, within_room, answer}
-unfoldable pub use Rattle.rules.specs.Run.{after_pass, after_move, stopped, resume, status, total_of_lem, totals_from}
+unfoldable pub use Rattle.rules.specs.Run.{after_pass, after_move, stopped, resume, status, total_of, totals_from}
 
 abbrev pub PickAnswer : Type 0
 PickAnswer = PickAnswerOf frames

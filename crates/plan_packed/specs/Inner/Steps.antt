@@ -261,12 +261,12 @@ Fitting b n = (t : ℕ) → t < n → (wrongly_sorted b t ≡ false) × (not_nam
 -- ---- check 7
 
 -- bit x of a number
-abbrev pub bit_of_lem : ℕ → ℕ → Bool
-bit_of_lem m x = eqb (m / 2 ^ x % 2) 1
+abbrev pub bit_of : ℕ → ℕ → Bool
+bit_of m x = eqb (m / 2 ^ x % 2) 1
 
 -- the slots of a mask
 unfoldable pub slots : ℕ → ℕ → Bool
-slots m x = bit_of_lem m x
+slots m x = bit_of m x
 
 -- what is bound in a let's second operand; slot 15 binds nothing
 unfoldable pub with_slot : ℕ → ℕ → ℕ

@@ -23,8 +23,8 @@ pub record Put (popped value : ℕ) (values : List ℕ) (n : ℕ) (values' : Lis
   pub few : n' ≤ n + 1
 
 -- the value that was read last; without one, the number 0
-unfoldable pub last_of_lem : List ℕ → ℕ → ℕ
-last_of_lem values n = cond (eqb n 0) 1024 (get_or values (n - 1) 0)
+unfoldable pub last_of : List ℕ → ℕ → ℕ
+last_of values n = cond (eqb n 0) 1024 (get_or values (n - 1) 0)
 
 -- what a step sees of tokens from a place on, and of values
 pub record Looks (tokens : List ℕ) (at : ℕ) (words values : List ℕ) (n : ℕ) (s : Sight) : Type 0 where

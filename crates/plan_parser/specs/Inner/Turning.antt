@@ -3,7 +3,7 @@ use Rattle.std.specs.Prelude.{ℕ, ◌+◌, ◌-◌, ◌%◌, ◌≤◌, ◌<◌
 use Rattle.plan_parser_goals.specs.Inner.Encoded.{goal_of, value_of, value_sort}
 use Rattle.plan_parser_goals.specs.Inner.Moves.{Calls, Ends}
 use Rattle.plan_parser_goals.specs.Inner.Moves.{Sight, Move}
-use Rattle.plan_parser.specs.Inner.Stacks.{last_of_lem}
+use Rattle.plan_parser.specs.Inner.Stacks.{last_of}
 use Rattle.plan_parser.specs.Inner.Reading.{State, Going, WentWith, Turned}
 use Rattle.plan_parser.specs.declared.turns.Standing.{Standing}
 use Rattle.plan_parser.specs.declared.turns.Turn.{Turn}
@@ -20,8 +20,8 @@ sight_of tokens words values s =
       first = get_or tokens s.at 69;
       second = get_or tokens (s.at + 1) 69;
       third = get_or tokens (s.at + 2) 69;
-      sort = value_sort (value_of words (last_of_lem values s.values));
-      number = number_of (last_of_lem values s.values);
+      sort = value_sort (value_of words (last_of values s.values));
+      number = number_of (last_of values s.values);
     }
 
 -- the goal of this number is on top, and there is room for what it does

@@ -1,4 +1,4 @@
--- `length_of_lem` meets its contract. Assumes nothing.
+-- `length_of` meets its contract. Assumes nothing.
 use native.Mathlib.Numerals.{add-one}
 use lib.ListN.{length-replicate}
 use borrow.Author.Rules.{rules}

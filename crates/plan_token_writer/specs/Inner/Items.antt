@@ -4,7 +4,7 @@ use Rattle.plan_packed.specs.Format.{fields_from}
 use Rattle.plan_packed.specs.Inner.Operands.{tag_of, slot_bits, field_bits, procedure_bits}
 use Rattle.plan_packed.specs.Inner.Steps.{Ordered, tree_in, condition_in, list_in}
 use Rattle.plan_notation.specs.Tokens.{in_word, then_word, else_word, do_word, all_word, and_word, true_word, not_word, null_word, new_word, let_word, if_word, while_word}
-use Rattle.plan_notation.specs.Tokens.{call_word_lem, fork_word, join_word, synch_word, wait_word, notify_word, opening, closing, comma, dot, equals, becomes, dash}
+use Rattle.plan_notation.specs.Tokens.{call_word, fork_word, join_word, synch_word, wait_word, notify_word, opening, closing, comma, dot, equals, becomes, dash}
 use Rattle.text.specs.Inner.Wrote.{Wrote}
 use Rattle.plan_notation.specs.Shown.{loose, testing, prefix, tight, shown, shownᶜ, shownᵃ, shown_further}
 use Rattle.plan_token_writer.specs.declared.Standing.{Standing}
@@ -103,7 +103,7 @@ item_rows =
     ∷ row loose 6 let_word binder_item equals (child_item 3 loose) in_word (child_item 4 loose)
     ∷ row loose 6 if_word (child_item 0 (as_condition loose)) then_word (child_item 1 loose) else_word (child_item 2 loose)
     ∷ row loose 4 while_word (child_item 0 (as_condition loose)) do_word (child_item 1 loose) 6 7
-    ∷ row tight 4 call_word_lem procedure_item opening (child_item 6 as_arguments) 6 7
+    ∷ row tight 4 call_word procedure_item opening (child_item 6 as_arguments) 6 7
     ∷ row prefix 2 fork_word (child_item 0 prefix) 4 5 6 7
     ∷ row prefix 2 join_word (child_item 0 prefix) 4 5 6 7
     ∷ row loose 4 synch_word (child_item 0 loose) do_word (child_item 1 loose) 6 7
@@ -179,13 +179,13 @@ pub record Pushed (before : List ℕ) (n : ℕ) (is after : List ℕ) (r : ℕ) 
   pub items : stack_of after r ≡ is ++ stack_of before n
 
 -- how much is left to do: by the tokens that are left, and the term on top
-unfoldable pub key_of_lem : List ℕ → ℕ
-key_of_lem [] = 0
-key_of_lem (i ∷ is) = cond (leb 16384 i) 0 (1024 - i % 1024)
+unfoldable pub key_of : List ℕ → ℕ
+key_of [] = 0
+key_of (i ∷ is) = cond (leb 16384 i) 0 (1024 - i % 1024)
 
 unfoldable pub weight : List ℕ → List ℕ → ℕ
-unfolding tokens_in key_of_lem
-weight words is = 1025 * length (tokens_in words is) + key_of_lem is
+unfolding tokens_in key_of
+weight words is = 1025 * length (tokens_in words is) + key_of is
 
 -- what a step is given
 pub record Running (words : List ℕ) (rows : List (List ℕ)) (stack : List ℕ) (top : ℕ) (area : List ℕ) (at : ℕ) : Type 0 where

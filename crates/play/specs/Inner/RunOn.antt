@@ -3,7 +3,7 @@ use Rattle.std.specs.Prelude.{ℕ, ◌*◌, ◌≤◌, ◌<◌, ◌≡◌, Bool,
 use Rattle.std.proofs.Math.Option.{none}
 use Rattle.format.specs.Area.{overwrite}
 use Rattle.plan_packed.specs.Format.{terms}
-use Rattle.plan_packed.specs.Trees.{program_of_lem}
+use Rattle.plan_packed.specs.Trees.{program_of}
 use Rattle.plan_packed.specs.Check.{refusal}
 use Rattle.plan_packed.specs.Inner.Steps.{Loaded}
 use Rattle.log_records.specs.Packed.{bytes_of}
@@ -29,7 +29,7 @@ pub record Given (plan words picks area : List ℕ) : Type 0 where
 
 -- the defined run's outcome and log; and how many moves and records the run of the picks before the last that it met has
 pub record RunOn (plan picks before after : List ℕ) (r : Ran) : Type 0 where
-  pub outcome : outcome_of r.outcome ≡ run.outcome_of (program_of_lem plan) (run_of plan picks)
+  pub outcome : outcome_of r.outcome ≡ run.outcome_of (program_of plan) (run_of plan picks)
   pub area : after ≡ overwrite (bytes_of (log (run_of plan picks))) before
   pub moves_before : r.before.moves ≡ length (instances (run_of plan (picks_before r.outcome.picks picks)))
   pub records_before : r.before.records ≡ length (log (run_of plan (picks_before r.outcome.picks picks)))
@@ -37,8 +37,8 @@ pub record RunOn (plan picks before after : List ℕ) (r : Ran) : Type 0 where
 -- where every move is to have a record: the defined run's stop, and its moves
 pub record MovesOn (plan picks before after : List ℕ) (r : Ran) : Type 0 where
   pub stop : stop_of r.outcome.stop ≡ (run_of plan picks).stop
-  pub records : r.outcome.records ≡ length (moves_of (program_of_lem plan) picks)
-  pub area : after ≡ overwrite (bytes_of (moves_of (program_of_lem plan) picks)) before
+  pub records : r.outcome.records ≡ length (moves_of (program_of plan) picks)
+  pub area : after ≡ overwrite (bytes_of (moves_of (program_of plan) picks)) before
 
 -- the one or the other
 abbrev pub RunBy : Bool → (plan picks before after : List ℕ) → Ran → Type 0
@@ -47,7 +47,7 @@ RunBy false plan picks before after r = RunOn plan picks before after r
 
 -- the outcome is that of the picks' run
 abbrev pub OutcomeOf : List ℕ → List ℕ → Outcome → Type 0
-OutcomeOf plan picks o = outcome_of o ≡ run.outcome_of (program_of_lem plan) (run_of plan picks)
+OutcomeOf plan picks o = outcome_of o ≡ run.outcome_of (program_of plan) (run_of plan picks)
 
 -- few places for notes, and room in a log area for a record to each
 pub record Notable (notes area : List ℕ) : Type 0 where

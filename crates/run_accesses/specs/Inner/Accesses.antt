@@ -1,7 +1,7 @@
 -- What a read or a write of a field does, by value. The machine that the code runs; no reader of the entries' promises needs it. Assumes nothing.
 use Rattle.std.specs.Prelude.{ℕ, ◌+◌, cond, eqb, leb}
 use Rattle.run_keys.specs.declared.KeySet.{KeySet}
-use Rattle.run_keys.specs.Inner.KeySet.{empty_set, learn_of, join_of_lem, joined_of}
+use Rattle.run_keys.specs.Inner.KeySet.{empty_set, learn_of, join_of, joined_of}
 use Rattle.run_frames.specs.Inner.Going.{go_value}
 use Rattle.run_state.specs.declared.Head.{Head}
 use Rattle.run_state.specs.declared.Cell.{Cell}
@@ -29,7 +29,7 @@ unfoldable pub act_write : Setting → Counts → Head → Cell → ℕ → ℕ 
 unfolding passed_of
 act_write g n h c o f v =
     cond (has_of g.mask f)
-    (acted_of (go_value v) n h.keys (cell_of v 0 (join_of_lem c.keys (passed_of g h.keys))) (entry_of (kind_number Kind.writev) o f v))
+    (acted_of (go_value v) n h.keys (cell_of v 0 (join_of c.keys (passed_of g h.keys))) (entry_of (kind_number Kind.writev) o f v))
     (cond (leb 256 n.keys)
     (act.NoRoom room.Key)
     (acted_of (go_value v) (counts_of n.threads n.objects (n.keys + 1)) (learn_of h.keys n.keys) (cell_of v n.keys c.keys)

@@ -915,50 +915,50 @@ abbrev Noted : Type 0
 Noted = tie.After-note invariant-loop2 decreases-loop2 invariant-loop3 decreases-loop3 invariant-loop decreases-loop
 
 -- by this answer
-abbrev answer_of : Noted → tie.After-goes-on-by invariant-loop2 decreases-loop2 invariant-loop3 decreases-loop3 invariant-loop decreases-loop
-answer_of c = c.before.before.before
+abbrev answer_of_lem : Noted → tie.After-goes-on-by invariant-loop2 decreases-loop2 invariant-loop3 decreases-loop3 invariant-loop decreases-loop
+answer_of_lem c = c.before.before.before
 
 module _ (c : Noted) where
   abbrev over : tie.After-loop3 invariant-loop2 decreases-loop2 invariant-loop3 decreases-loop3 invariant-loop decreases-loop
-  over = (answer_of c).before
+  over = (answer_of_lem c).before
 
   abbrev gone : Left
   gone = left over.before
 
   abbrev o : Opened
-  o = closed (left (answer_of c).before.before)
+  o = closed (left (answer_of_lem c).before.before)
 
   abbrev lowest : ℕ
-  lowest = (answer_of c).goes-on-by.result
+  lowest = (answer_of_lem c).goes-on-by.result
 
-  by_this : (answer_of c).goes-on-by.result < 8
-  by_this = omega (arith, (answer_of c).goes-on-by.ensures.within, c.before.before.if8.false)
+  by_this : (answer_of_lem c).goes-on-by.result < 8
+  by_this = omega (arith, (answer_of_lem c).goes-on-by.ensures.within, c.before.before.if8.false)
 
-  going : (ltb (left (answer_of c).before.before).loop2-test.dealt (end o) ≡ false) × (end o < length o.loop.notes)
-      × LowestFrom (open_at (answer_of c).before.before.loop3.threads) 0 (answer_of c).goes-on-by.result
-  going = (answer_of c).goes-on-by.ensures.going by_this
+  going : (ltb (left (answer_of_lem c).before.before).loop2-test.dealt (end o) ≡ false) × (end o < length o.loop.notes)
+      × LowestFrom (open_at (answer_of_lem c).before.before.loop3.threads) 0 (answer_of_lem c).goes-on-by.result
+  going = (answer_of_lem c).goes-on-by.ensures.going by_this
 
-  unhalted : end o ≤ (left (answer_of c).before.before).loop2-test.dealt
+  unhalted : end o ≤ (left (answer_of_lem c).before.before).loop2-test.dealt
   unhalted = ltb-false _ _ going.0
 
   -- the threads show what can be picked
-  shown : (k : ℕ) → k < 8 → open_at (answer_of c).before.before.loop3.threads k ≡ open_after (whole o).outcome k
+  shown : (k : ℕ) → k < 8 → open_at (answer_of_lem c).before.before.loop3.threads k ≡ open_after (whole o).outcome k
   unfolding open_after
   shown k b =
-      sym (ap (λ (x : Stop). unstopped x && open_at (answer_of c).before.before.loop3.threads k) (stood gone unhalted).unstopped)
+      sym (ap (λ (x : Stop). unstopped x && open_at (answer_of_lem c).before.before.loop3.threads k) (stood gone unhalted).unstopped)
       ∙ ap (λ (x : Outcome). open_after x k) (outcome_is over)
 
-  low : LowestFrom (open_after (whole o).outcome) 0 (answer_of c).goes-on-by.result
-  low = lowest_ext (open_at (answer_of c).before.before.loop3.threads) (open_after (whole o).outcome) 0 _ shown going.2
+  low : LowestFrom (open_after (whole o).outcome) 0 (answer_of_lem c).goes-on-by.result
+  low = lowest_ext (open_at (answer_of_lem c).before.before.loop3.threads) (open_after (whole o).outcome) 0 _ shown going.2
 
   -- the next higher thread
   abbrev higher : ℕ
   higher = c.note.ensures.higher
 
-  high : LowestFrom (open_after (whole o).outcome) (pick_at (picks o) (end o) (answer_of c).goes-on-by.result % 8 + 1) c.note.ensures.higher
+  high : LowestFrom (open_after (whole o).outcome) (pick_at (picks o) (end o) (answer_of_lem c).goes-on-by.result % 8 + 1) c.note.ensures.higher
   high =
       along (λ (p : ℕ). LowestFrom (open_after (whole o).outcome) (p % 8 + 1) c.note.ensures.higher) c.before.pick-at2.ensures
-      (lowest_ext (open_at (answer_of c).before.before.loop3.threads) (open_after (whole o).outcome) _ _ shown c.note.ensures.above)
+      (lowest_ext (open_at (answer_of_lem c).before.before.loop3.threads) (open_after (whole o).outcome) _ _ shown c.note.ensures.above)
 
   inside : end o < length (start o).args.notes.now
   inside = omega (arith, going.1, (round o).kept)

@@ -36,9 +36,9 @@ unfoldable pub learn_of : KeySet → ℕ → KeySet
 unfolding union
 learn_of s k = of_words (set (words s) (k / 64) (union (word_of s k) (singleton (k % 64))))
 
-unfoldable pub join_of_lem : KeySet → KeySet → KeySet
+unfoldable pub join_of : KeySet → KeySet → KeySet
 unfolding union
-join_of_lem s t =
+join_of s t =
     record { w0 = union s.w0 t.w0; w1 = union s.w1 t.w1; w2 = union s.w2 t.w2; w3 = union s.w3 t.w3 }
 
 -- how many keys of one word are new to another
@@ -51,7 +51,7 @@ unfolding new_in
 new_of s t = new_in t.w0 s.w0 + new_in t.w1 s.w1 + new_in t.w2 s.w2 + new_in t.w3 s.w3
 
 abbrev pub joined_of : KeySet → KeySet → Joined
-joined_of s t = record { keys = join_of_lem s t; new = new_of s t }
+joined_of s t = record { keys = join_of s t; new = new_of s t }
 
 unfoldable pub is_empty_of : KeySet → Bool
 is_empty_of s = eqb s.w0 0 && (eqb s.w1 0 && (eqb s.w2 0 && eqb s.w3 0))

@@ -69,8 +69,8 @@ mover_of x a l = refocused_head l x.head.object a.keys (x.head.learnt % 256 + a.
 abbrev pub forked_of : Met → Refocused → Head
 forked_of x l = refocused_head l x.counts.objects x.head.keys 0
 
-abbrev pub move_of_lem : Met → Acted → Refocused → Head → Bool → Move
-move_of_lem x a l y forks = record { mover = mover_of x a l; forked = y; cell = a.cell; object = a.object; counts = a.counts; entry = a.entry; forks = forks }
+abbrev pub move_of : Met → Acted → Refocused → Head → Bool → Move
+move_of x a l y forks = record { mover = mover_of x a l; forked = y; cell = a.cell; object = a.object; counts = a.counts; entry = a.entry; forks = forks }
 
 -- ---- the refocusings
 
@@ -97,14 +97,14 @@ forked_way n h = record { base = n.threads % 9 * 33; depth = 0; go = forked_go h
 -- to a fork whose mover has refocused at l, where its forked thread refocused
 unfoldable pub start_by : Met → Acted → Refocused → Ended → Picked
 start_by x a l y = cond (full_of y.refocused) (picked y.stack (no_room room.Depth))
-    (picked y.stack (answer.Moved (move_of_lem x a l (forked_of x y.refocused) true)))
+    (picked y.stack (answer.Moved (move_of x a l (forked_of x y.refocused) true)))
 
 -- to a move that has room for what it makes, where its mover refocused
 unfoldable pub refocus_by : List ℕ → List ℕ → Met → Acted → Ended → Picked
 refocus_by ws rs x a l =
     cond (full_of l.refocused) (picked l.stack (no_room room.Depth))
     (cond (forks_of x.head) (start_by x a l.refocused (refocus_forked ws rs x l.stack))
-    (picked l.stack (answer.Moved (move_of_lem x a l.refocused no_head false))))
+    (picked l.stack (answer.Moved (move_of x a l.refocused no_head false))))
 
 abbrev pub make_by : List ℕ → List ℕ → Met → Act → Stack → Picked
 make_by ws rs x (act.Done a) k = refocus_by ws rs x a (refocus_mover ws rs x a k)

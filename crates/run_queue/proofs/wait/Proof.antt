@@ -1,5 +1,5 @@
 -- `wait` meets its contract. Assumes nothing.
-use Rattle.run_queue.specs.Inner.Queue.{last_of_lem, waited_of}
+use Rattle.run_queue.specs.Inner.Queue.{last_of, waited_of}
 use borrow.Author.Rules.{rules}
 use Rattle.run_queue.proofs.wait.Statement.{statement}
 use Rattle.run_queue.proofs.wait.Tie as tie
@@ -26,7 +26,7 @@ same_length : tie.Need-same-length
 same_length c = search rules
 
 returns : tie.Need-returns
-unfolding waited_of last_of_lem
+unfolding waited_of last_of
 returns c = simp c.count.ensures.0
 
 pub wait_spec : {M : Type 1} → statement M

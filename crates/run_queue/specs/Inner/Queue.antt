@@ -15,14 +15,14 @@ count_of o [] = 0
 count_of o (w ∷ ws) = cond (queued_on o w) (suc (count_of o ws)) (count_of o ws)
 
 -- the last place in an object's queue
-unfoldable pub last_of_lem : ℕ → List ℕ → ℕ
+unfoldable pub last_of : ℕ → List ℕ → ℕ
 unfolding count_of
-last_of_lem o ws = (count_of o ws + 1) * 32 + o
+last_of o ws = (count_of o ws + 1) * 32 + o
 
 -- thread p waits: it takes the last place
 unfoldable pub waited_of : ℕ → ℕ → List ℕ → List ℕ
-unfolding last_of_lem
-waited_of o p ws = set ws p (last_of_lem o ws)
+unfolding last_of
+waited_of o p ws = set ws p (last_of o ws)
 
 -- notify: each place in the object's queue is one nearer to its front
 unfoldable pub nearer : ℕ → ℕ → ℕ

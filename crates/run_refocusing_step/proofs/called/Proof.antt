@@ -16,7 +16,7 @@ use Rattle.run_lists.proofs.Tells.{told_count}
 use Rattle.run_lists.proofs.Coded.{values_lt, codes_wrap}
 use Rattle.run_refocusing_step.specs.declared.Through.{Through}
 use Rattle.run_refocusing_step.specs.Inner.Ahead.{called_of}
-use Rattle.run_refocusing_step.specs.Inner.Down.{call_of_lem}
+use Rattle.run_refocusing_step.specs.Inner.Down.{call_of}
 use Rattle.run_refocusing_step.proofs.Told.{over, gathers_told}
 use borrow.Author.Rules.{rules}
 use Rattle.run_refocusing_step.proofs.called.Statement.{statement}
@@ -61,14 +61,14 @@ module _ (ws rs : List ℕ) (f : Frame) (t n left : ℕ) (e : t ≡ told_of ws (
   slots : f.arguments < 2 ^ 40
   slots = lt_of_lt_of_le a (pow_mono {i = f.count * 5} {j = 40} (omega (arith, c)))
 
-  gathers : called_of ws rs left f ≡ record { left = left - n; go = call_of_lem rs f (f.arguments + values_of 8 f.environment t * 2 ^ (f.count * 5)) }
+  gathers : called_of ws rs left f ≡ record { left = left - n; go = call_of rs f (f.arguments + values_of 8 f.environment t * 2 ^ (f.count * 5)) }
   gathers =
       gathers_told ws rs 8 head left f (whole.0, rw (← all) l, rw (← all) c, a)
       ∙ ap (λ (m : ℕ). record {
         left = left - m;
-        go = call_of_lem rs f (f.arguments + values_of 8 f.environment (codes_from 8 ws f.first head) * 2 ^ (f.count * 5));
+        go = call_of rs f (f.arguments + values_of 8 f.environment (codes_from 8 ws f.first head) * 2 ^ (f.count * 5));
       }) (sym all)
-      ∙ ap (λ (x : ℕ). record { left = left - n; go = call_of_lem rs f (f.arguments + values_of 8 f.environment x * 2 ^ (f.count * 5)) }) (sym codes)
+      ∙ ap (λ (x : ℕ). record { left = left - n; go = call_of rs f (f.arguments + values_of 8 f.environment x * 2 ^ (f.count * 5)) }) (sym codes)
 
 word_requires : tie.Need-word-requires
 word_requires c κs = search rules

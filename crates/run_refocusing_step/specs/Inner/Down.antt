@@ -41,11 +41,11 @@ unfoldable pub root_at : List ℕ → ℕ → ℕ
 root_at rs m = get_or rs (m % 32) 0
 
 -- the call of a frame's procedure with these arguments
-abbrev pub call_of_lem : List ℕ → Frame → ℕ → Refocusing
-call_of_lem rs f arguments = go_at (ready_of redex.Run (root_at rs f.member) 0 0 arguments)
+abbrev pub call_of : List ℕ → Frame → ℕ → Refocusing
+call_of rs f arguments = go_at (ready_of redex.Run (root_at rs f.member) 0 0 arguments)
 
 unfoldable pub list_by : List ℕ → ℕ → Frame → Refocusing
-list_by rs w f = cond (eqb (tag_of w) 16) (go_want (rest_of f (second_of w)) (first_of w)) (call_of_lem rs f f.arguments)
+list_by rs w f = cond (eqb (tag_of w) 16) (go_want (rest_of f (second_of w)) (first_of w)) (call_of rs f f.arguments)
 
 unfoldable pub list_of : List ℕ → List ℕ → Frame → Refocusing
 unfolding list_by

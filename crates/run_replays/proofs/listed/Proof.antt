@@ -7,7 +7,7 @@ use mathlib.Core.List.{List, []}
 use lib.ListN.{length, take}
 use lib.Seq.{length-take-le}
 use borrow.Author.Rules.{rules}
-use Rattle.plan_packed.specs.Trees.{program_of_lem}
+use Rattle.plan_packed.specs.Trees.{program_of}
 use Rattle.run_replays.proofs.Told.{few_counts, too_long, its_outcome, by_count, not_all}
 use Rattle.run_replays.proofs.listed.Statement.{statement}
 use Rattle.run_replays.proofs.listed.Tie as tie
@@ -28,7 +28,7 @@ module _ (c : tie.After-explore) where
   long = notes_length began.args.n began.args.notes.now began.pre.room
 
 returns : tie.Need-returns
-returns c = let s = c.before.before.before.before in too_long (program_of_lem s.args.plan.now) s.args.n s.args.schedule.now _ c.if1.true
+returns c = let s = c.before.before.before.before in too_long (program_of s.args.plan.now) s.args.n s.args.schedule.now _ c.if1.true
 
 sub-explore : tie.Need-overflow-sub-explore
 sub-explore c = search rules

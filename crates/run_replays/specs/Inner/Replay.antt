@@ -2,7 +2,7 @@
 use Rattle.std.specs.Prelude.{ℕ, ◌+◌, ◌%◌, ◌≤◌, ◌<◌, ◌≡◌, Bool, false, List, length, get_or, take}
 use Rattle.std.proofs.Math.Option.{none}
 use Rattle.plan_packed.specs.Format.{terms}
-use Rattle.plan_packed.specs.Trees.{program_of_lem}
+use Rattle.plan_packed.specs.Trees.{program_of}
 use Rattle.plan_packed.specs.Check.{refusal}
 use Rattle.plan_packed.specs.Inner.Steps.{Loaded}
 use Rattle.run_open_threads.specs.Inner.Open.{LowestFrom}
@@ -38,5 +38,5 @@ pub record Explores (plan picks before after : List ℕ) (r : Explored) : Type 0
   pub kept : length after ≡ length before
   pub within : r.made ≤ length before
   pub outcome : OutcomeOf plan (take r.made (all_picks picks after)) r.ran.outcome
-  pub noted : (i : ℕ) → i < r.made → PlaceNoted (can_follow (program_of_lem plan)) (length picks) (all_picks picks after) after i
-  pub shut : r.made < length before → (k : ℕ) → k < 8 → can_follow (program_of_lem plan) (take r.made (all_picks picks after)) k ≡ false
+  pub noted : (i : ℕ) → i < r.made → PlaceNoted (can_follow (program_of plan)) (length picks) (all_picks picks after) after i
+  pub shut : r.made < length before → (k : ℕ) → k < 8 → can_follow (program_of plan) (take r.made (all_picks picks after)) k ≡ false

@@ -6,7 +6,7 @@ use lib.ListN.{length, length-set}
 use borrow.Author.Rules.{rules}
 use Rattle.format.proofs.Filled.{filled}
 use Rattle.run_keys.specs.Keys.{holds}
-use Rattle.plan_packed.specs.Trees.{program_of_lem}
+use Rattle.plan_packed.specs.Trees.{program_of}
 use Rattle.costs.specs.Calls.{called}
 use Rattle.bound.specs.Inner.Settling.{Called}
 use Rattle.bound.proofs.Bodies.{few_procedures, root_there, root_call}
@@ -59,7 +59,7 @@ loop_again c =
       search rules,
       length-set l.all l.procedure _ ∙ l.invariant.1,
       record {
-        each = filled {A = ℕ} l.all l.procedure _ 0 (λ (p x : ℕ). (q : ℕ) → q < 32 → holds x q ≡ called (program_of_lem b) p q) n l.invariant.2.each e;
+        each = filled {A = ℕ} l.all l.procedure _ 0 (λ (p x : ℕ). (q : ℕ) → q < 32 → holds x q ≡ called (program_of b) p q) n l.invariant.2.each e;
         small = filled {A = ℕ} l.all l.procedure _ 0 (λ (p x : ℕ). x < 2 ^ 32) n l.invariant.2.small f;
       },
     )

@@ -15,9 +15,9 @@ use Rattle.plan_terms.proofs.table.wrong_children.Statement.{statement}
 use Rattle.plan_terms.proofs.table.wrong_children.Tie as tie
 
 -- the last of three
-last_of : (s₁ s₂ s₃ : ℕ) (x y z : Bool) → (s₁ ≡ 0 → ⊥) → x ≡ false → (s₂ ≡ 0 → ⊥) → y ≡ false → (s₃ ≡ 0 → ⊥)
+last_of_lem : (s₁ s₂ s₃ : ℕ) (x y z : Bool) → (s₁ ≡ 0 → ⊥) → x ≡ false → (s₂ ≡ 0 → ⊥) → y ≡ false → (s₃ ≡ 0 → ⊥)
     → z ≡ (not (eqb s₁ 0) && (x || (not (eqb s₂ 0) && (y || (not (eqb s₃ 0) && (z || false))))))
-last_of s₁ s₂ s₃ x y z a e b f d = rw (ne_eqb s₁ 0 a, e, ne_eqb s₂ 0 b, f, ne_eqb s₃ 0 d) (sym (or-false z))
+last_of_lem s₁ s₂ s₃ x y z a e b f d = rw (ne_eqb s₁ 0 a, e, ne_eqb s₂ 0 b, f, ne_eqb s₃ 0 d) (sym (or-false z))
 
 -- the test of a child, by its place
 seen : (n t v u : ℕ) (r x : Bool) → v ≡ u → r ≡ outside n t v → r ≡ x → outside n t u ≡ x
@@ -172,7 +172,7 @@ returns_6 c =
     let h₂ = rw (i.inner.ensures, i.before.child2.ensures) at (v.wrong-child2.ensures.1.1 y) in
     let k = c.before.before.before.child3.ensures in (
       c.wrong-child3.ensures.0 ∙ ap (outside a.count a.term) k
-          ∙ last_of _ _ _ _ _ _ s (seen₁ w false x) (some₂ b) (seen₂ v false y) (some₃ d),
+          ∙ last_of_lem _ _ _ _ _ _ s (seen₁ w false x) (some₂ b) (seen₂ v false y) (some₃ d),
       (
         (λ q. rw (three_children a.word a.tag s (some₂ b) (some₃ d))
             (note_more _ _ _ _ _ n₁ (note_more _ _ _ _ _ n₂ (rw (d.before.number3.ensures, k) at (c.wrong-child3.ensures.1.0 q))))),

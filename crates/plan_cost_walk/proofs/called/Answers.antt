@@ -1,0 +1,9 @@
+-- `called`: by what is asked.
+use borrow.Author.Rules.{rules}
+use Rattle.plan_cost_walk.proofs.called.Goals as goal
+
+pub returns-then-counting : goal.returns-then-counting
+returns-then-counting c = rw c.if-counting.true c.capped_sum.ensures
+
+pub returns-else-counting : goal.returns-else-counting
+returns-else-counting c = rw c.if-counting.false
