@@ -1,4 +1,4 @@
-// Links the static library that `rt staticlib ruqzhemil` wrote.
+// Links the static library that examples/library.sh wrote.
 fn main() {
     let root = std::env::var("CARGO_MANIFEST_DIR").unwrap() + "/../target/staticlib";
     println!("cargo:rustc-link-search=native={root}");

@@ -1,4 +1,4 @@
-// Links the static library: from the folder that RUQZHEMIL_LIB_DIR names, else from where `rt staticlib ruqzhemil` writes it.
+// Links the static library: from the folder that RUQZHEMIL_LIB_DIR names, else from where examples/library.sh writes it.
 fn main() {
     let own = std::env::var("CARGO_MANIFEST_DIR").unwrap() + "/../target/staticlib";
     let folder = std::env::var("RUQZHEMIL_LIB_DIR").unwrap_or(own);

@@ -6,7 +6,7 @@
 
 ORACLE is the folder of the second interpreter; CASES are its JSON lines, made before; the list names the requests of document 02 that count as landed.
 The library is target/staticlib/libruqzhemil.a
-(`rt staticlib ruqzhemil` makes it), linked into a shared object by the C compiler. Compared are: what check returns; what play returns, the 40
+(examples/library.sh makes it), linked into a shared object by the C compiler. Compared are: what check returns; what play returns, the 40
 bytes of the outcome and the whole log area, beyond the records too; what judge returns for the log of each run and for each log of the cases; what
 comtrade returns and the whole area; what charge returns; what preview returns and its 8 bytes; what canonical returns and the
 whole area; what show returns for the same plans and the whole area, by tools/plan_text.py; what read returns for what is shown and for that text a little

@@ -1,5 +1,6 @@
 // What every entry for C and Rust returns: a number of 64 bits, whose upper half says which kind of answer it is.
 #![tactic(auto)]
+
 ghost use Rattle.std.specs.Prelude.{◌≡◌, ◌+◌, ◌*◌, ◌^◌, ◌≤◌, min};
 ghost use Rattle.plan_refusals.specs.Answer as refusals;
 ghost use Rattle.plan_refusals.specs.Inner.Small.{SmallCheck};

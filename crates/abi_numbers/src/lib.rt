@@ -1,5 +1,6 @@
 // An answer as one number, by the convention.
 #![tactic(auto)]
+
 ghost use Rattle.std.specs.Prelude.{◌≡◌};
 ghost use Rattle.judge.specs.Answer as judge;
 ghost use Rattle.interleavings.specs.Answer as listing;

@@ -1,5 +1,6 @@
 // The outcome of a run as 40 bytes, and what a play returns.
 #![tactic(auto)]
+
 ghost use Rattle.std.specs.Prelude.{◌≡◌, ◌/◌, ◌%◌, ◌<◌};
 ghost use Rattle.play.specs.Answer.{stop_of, outcome_of, answered};
 ghost use Rattle.abi_outcome.specs.Bytes.{outcome_bytes};

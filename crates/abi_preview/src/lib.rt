@@ -1,5 +1,6 @@
 // A preview as a number and eight bytes, for programs in C, Rust and other languages.
 #![tactic(auto)]
+
 ghost use Rattle.std.specs.Prelude.{◌≡◌};
 ghost use Rattle.play.specs.Answer.{stop_of};
 ghost use Rattle.abi_thread_bytes.specs.Bytes.{three, stop_byte};

@@ -1,5 +1,6 @@
 // The bytes of a stop and of a thread's state, for programs in C, Rust and other languages.
 #![tactic(auto)]
+
 ghost use Rattle.std.specs.Prelude.{◌≡◌, ◌<◌};
 ghost use Rattle.play.specs.Answer.{stop_of, status_of};
 ghost use Rattle.abi_thread_bytes.specs.Bytes.{stop_byte, three, thread_bytes};

@@ -1,5 +1,6 @@
 // The version of the entries for C and Rust.
 #![tactic(auto)]
+
 ghost use Rattle.std.specs.Prelude.{◌≡◌};
 ghost use Rattle.abi_version.specs.Version.{version};
 

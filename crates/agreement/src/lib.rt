@@ -1,6 +1,7 @@
 // Demand 3: the stop for want of a key, the chains of the log and the judge agree. The theorem over the definitions is in specs/ and proofs/; here
 // is the play and the judge, one after the other, on one log area.
 #![tactic(auto)]
+
 ghost use Rattle.std.specs.Prelude.{◌≡◌, ◌≤◌, length, take};
 ghost use Rattle.log_conflicts.specs.Judge.{AnswersTold};
 ghost use Rattle.rules.specs.Play.{played, area_after};

@@ -1,5 +1,6 @@
 // How many moves a plan can need (document 02, E12): refusals 1 to 7, then 21 to 23, else the total.
 #![tactic(auto)]
+
 pub mod settling; // settling.rt: whom each procedure calls, and what bodies cost, callees first
 
 ghost use Rattle.std.specs.Prelude.{◌≡◌};

@@ -1,5 +1,6 @@
 // Numbers of several bytes, most significant byte first.
 #![tactic(auto)]
+
 ghost use Rattle.std.specs.Prelude.{◌≡◌, ◌+◌, ◌*◌, ◌≤◌, ◌<◌, length};
 ghost use Rattle.format.specs.Bits.{bits_at};
 

@@ -1,5 +1,6 @@
 // The entry `canonical`: a plan, written in the one way that document 02, E5, names, into an output area.
 #![tactic(auto)]
+
 ghost use Rattle.std.specs.Prelude.{◌≤◌, ◌≡◌, length, take, replicate};
 ghost use Rattle.std.proofs.lemmas.List.Edits.{sets};
 ghost use Rattle.format.specs.Area.{overwrite};

@@ -1,5 +1,6 @@
 // The entry `charge`: what a run of a schedule on a plan is charged, in cents.
 #![tactic(auto)]
+
 ghost use Rattle.std.specs.Prelude.{◌≡◌, ◌≤◌};
 ghost use Rattle.answers.specs.Answer.{answered};
 ghost use Rattle.play.specs.Answer.{stop_of};

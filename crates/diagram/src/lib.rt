@@ -1,6 +1,7 @@
 // The picture of a log as the judge sees it: the arrows that are needed, and in red the access that the judge names and the last earlier one that conflicts
 // with it and from which no chain leads to it.
 #![tactic(auto)]
+
 ghost use Rattle.std.specs.Prelude.{length};
 ghost use Rattle.format.specs.Version.{version_of};
 ghost use Rattle.answers.specs.Answer.{answered};

@@ -1,6 +1,7 @@
 // The entries `first_interleaving` and `next_interleaving`: all interleavings of a short plan, one after the other (document 02, E11); and `count`, how many
 // there are.
 #![tactic(auto)]
+
 ghost use Rattle.plan_packed.specs.Trees.{program_of};
 ghost use Rattle.answers.specs.Answer as answer;
 ghost use Rattle.listing_answers.specs.Interleavings.{FirstAnswer, NextAnswer};

@@ -1,5 +1,6 @@
 // The judge of a log (document 01, "The log and its order"): refusals 14, 11 and 12, then one pass by clocks.
 #![tactic(auto)]
+
 mod pass; // pass.rt: the pass by clocks
 
 ghost use Rattle.std.specs.Prelude.{◌<◌};

@@ -1,5 +1,6 @@
 // The arrows of a log that a picture of it needs: of the pairs of records of two threads those that no record lies between.
 #![tactic(auto)]
+
 pub mod heard; // heard.rt: the newest record of each thread that has a chain to a record
 mod implied; // implied.rt: whether other arrows imply an arrow
 mod listed; // listed.rt: the needed arrows into two areas

@@ -1,5 +1,6 @@
 // Rows of eight clocks, one to a thread. A record of thread u has reached what a row is of when its index is below the row's clock of u.
 #![tactic(auto)]
+
 ghost use Rattle.std.specs.Prelude.{◌≡◌, ltb, ◌<◌, max, min};
 ghost use Rattle.log_clocks.specs.Inner.Rows.{Raised, RaisedTo, lower_of, Low};
 

@@ -1,6 +1,7 @@
 // What a record does to the table: a plain access is held against what it must have heard and kept, an acquire and a volatile read hear, a release, a volatile
 // write, a fork and a join tell. By its kind first: only what is at a place has the place looked up.
 #![tactic(auto)]
+
 ghost use Rattle.log_places.specs.Inner.Places.{place_at, numbers_of, given_of, Numbered};
 ghost use Rattle.log_effects.specs.Inner.Step.{field_at, Numbers, Elsewhere, Ready, OtherStep, Stepped};
 

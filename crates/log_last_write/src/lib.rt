@@ -1,5 +1,6 @@
 // The last write of the field that a record of the log accesses, before that record.
 #![tactic(auto)]
+
 ghost use Rattle.log_last_write.specs.Inner.LastWrite.{HasLast, IsLast};
 
 use log_records::kind;

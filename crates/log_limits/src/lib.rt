@@ -1,5 +1,6 @@
 // What each kind allows of its record's last 12 bits, which are field, value and spare: the tables by which refusal 12 is tested.
 #![tactic(auto)]
+
 ghost use Rattle.std.specs.Prelude.{◌≡◌, true, false};
 ghost use Rattle.log_limits.specs.Inner.Limits.{least_bits, zero_bits};
 

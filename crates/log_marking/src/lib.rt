@@ -1,6 +1,7 @@
 // Which moves have a chain to the failing access or to the last write (document 02, E10): one pass over the moves, from the last to the first. A thread, a
 // monitor or a volatile field is wanted where a later move draws from it that is one of the two or is kept itself; a move is kept that feeds what is wanted.
 #![tactic(auto)]
+
 mod rows; // rows.rt: the flags of what a move draws from and feeds
 
 ghost use Rattle.std.specs.Prelude.{◌≡◌, ◌≤◌, ◌/◌, length};

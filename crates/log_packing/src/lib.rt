@@ -1,5 +1,6 @@
 // A record of the log: its columns packed into three bytes, and taken apart again.
 #![tactic(auto)]
+
 ghost use Rattle.std.specs.Prelude.{◌≡◌, ◌+◌, ◌*◌, ◌/◌, ◌<◌, ◌≤◌, length};
 ghost use Rattle.format.specs.Bits.{bits_at};
 ghost use Rattle.log_packing.specs.Inner.Columns.{ReadAt};

@@ -1,5 +1,6 @@
 // Refusals 11 and 12: what the log's author can do wrong. The tests are by tables and without branches, since a log's kinds follow no pattern.
 #![tactic(auto)]
+
 ghost use Rattle.std.specs.Prelude.{◌≡◌, eqb, ◌+◌, ◌/◌, ◌<◌, length, false};
 ghost use Rattle.format.specs.Inner.Lowest.{Lowest};
 ghost use Rattle.log_records.specs.Packed.{record_count};

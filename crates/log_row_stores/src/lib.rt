@@ -1,6 +1,7 @@
 // Stores to the table of rows, whose clocks are below 32,768. A thread's row has the highest number for the thread itself, which has heard of all its own
 // records.
 #![tactic(auto)]
+
 ghost use Rattle.std.specs.Prelude.{◌≡◌, ◌+◌, ◌<◌, ◌≤◌, length};
 ghost use Rattle.log_row_stores.specs.Inner.Table.{Sound, Started, Keeps, Hears, Told, Accessed};
 

@@ -1,6 +1,7 @@
 // The rows that a record is held against and kept in, and which records hear and tell. Thread q has row q. The place of number n has three rows, the first
 // at 8 + 3 n: what its monitor's releases or its volatile writes tell, its plain accesses, and its plain writes.
 #![tactic(auto)]
+
 ghost use Rattle.std.specs.Prelude.{◌≡◌, cond, ◌≤◌};
 ghost use Rattle.format.specs.Version.{version_of};
 ghost use Rattle.log_rows.specs.Inner.Rows.{place_row, is_access, ordering_kind, passes, held_row, kept_row};

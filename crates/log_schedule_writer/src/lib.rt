@@ -1,5 +1,6 @@
 // What is written from the moves of a run that raced (document 02, E10): the picks of the moves that are kept, renumbered, one pass forward.
 #![tactic(auto)]
+
 ghost use Rattle.std.specs.Prelude.{◌≡◌, ◌<◌, ◌≤◌, ◌/◌, length};
 ghost use Rattle.format.specs.Area.{overwrite};
 ghost use Rattle.log_records.specs.Packed.{log_of};

@@ -1,5 +1,6 @@
 // The packed plan: is it one that can be played, and if not, what is wrong with it, and where (document 01, refusals 1 to 7).
 #![tactic(auto)]
+
 ghost use Rattle.std.specs.Prelude.{◌≡◌, take, drop, replicate};
 ghost use Rattle.format.specs.Refusal.{first_refusal};
 ghost use Rattle.plan_packed.specs.Check.{checks, refusal};

@@ -1,6 +1,7 @@
 // Fields of a plan, most significant bit first: a struct that holds the plan and a bit position, and thin functions over it. The borrow checker covers no
 // function over such a struct, so each is proved by hand and leaves the work to `bits_at`, which takes a plain slice and is covered.
 #![tactic(auto)]
+
 ghost use Rattle.std.specs.Prelude.{◌≡◌, ◌+◌, ◌*◌, ◌≤◌, length};
 ghost use Rattle.format.specs.Bits.{bits_at};
 

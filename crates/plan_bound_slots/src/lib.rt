@@ -2,6 +2,7 @@
 // Of two operands one is a call and the other a turn of the loop, whichever side the deeper one is on: a leaf is seen in place (`rest_of_two`). With a call for
 // each operand the deepest plans would take more stack, and every leaf the time of a call; so a term's rest is an answer (`Rest`) and not a call of its own.
 #![tactic(auto)]
+
 ghost use Rattle.std.specs.Prelude.{◌≡◌, ◌&&◌, ℕ, ◌<◌, ltb};
 ghost use Rattle.format.specs.Inner.Lowest.{Lowest};
 ghost use Rattle.plan_packed.specs.Inner.Operands.{tag_of};

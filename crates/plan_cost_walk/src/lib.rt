@@ -2,6 +2,7 @@
 // list are walked by functions that call each other, each child coming after its parent. What the earlier parts come to is handed on to the later ones,
 // so that the last part of a term is a last call, which takes no stack.
 #![tactic(auto)]
+
 ghost use Rattle.std.specs.Prelude.{◌≡◌, ◌+◌, ◌<◌};
 ghost use Rattle.plan_packed.specs.Inner.Operands.{list_bits, procedure_bits};
 ghost use Rattle.plan_packed.specs.Inner.Steps.{Ordered, tree_in, condition_in, list_in};

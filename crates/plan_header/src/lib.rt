@@ -1,5 +1,6 @@
 // Checks 1 to 3: the length, the header and the mask, the procedures.
 #![tactic(auto)]
+
 pub mod layout; // layout.rt: the numbers of the header, of the mask and of the procedures
 
 ghost use Rattle.std.specs.Prelude.{◌≡◌, ◌+◌, ◌*◌, ◌<◌, ◌≤◌, length};

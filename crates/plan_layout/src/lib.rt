@@ -1,5 +1,6 @@
 // Tokens as text: spaces, lines, indentation (docs/FORMAT.md, "A plan as text").
 #![tactic(auto)]
+
 pub mod rows;
 
 ghost use Rattle.std.specs.Prelude.{◌≡◌, ◌+◌, ◌<◌, ◌≤◌, ◌++◌, length, replicate};

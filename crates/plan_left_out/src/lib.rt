@@ -1,5 +1,6 @@
 // Whether `witness` leaves a plan out (document 02, E10).
 #![tactic(auto)]
+
 ghost use Rattle.std.specs.Prelude.{◌≡◌};
 ghost use Rattle.side_by_side.specs.LeftOut.{left_out};
 ghost use Rattle.plan_left_out.specs.Inner.Loads.{Loads};

@@ -1,5 +1,6 @@
 // From the bytes of a text to its tokens (docs/FORMAT.md, "A plan as text").
 #![tactic(auto)]
+
 pub mod places; // places.rt: the line and the column of a token
 
 ghost use Rattle.plan_notation.specs.Lexing.{codes_of};

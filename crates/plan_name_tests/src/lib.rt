@@ -1,5 +1,6 @@
 // Checks 5 and 6, one name of a term at a time: its sort, the arguments of a call, and what a name more makes of its count and of its note.
 #![tactic(auto)]
+
 ghost use Rattle.std.specs.Prelude.{◌≡◌, ◌<◌};
 ghost use Rattle.plan_packed.specs.Refusals.{list_length, wrong_call};
 ghost use Rattle.plan_packed.specs.Inner.Rows.{layout_rows, Tagged};

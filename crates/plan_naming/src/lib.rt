@@ -1,5 +1,6 @@
 // Checks 5 and 6: every name of a term, by a procedure or by a parent, with the sort that the table wants there.
 #![tactic(auto)]
+
 pub mod notes; // notes.rt: both checks at once, where a plan passes them
 
 ghost use Rattle.std.specs.Prelude.{◌≡◌, true, false, [], ◌∷◌, ℕ, ◌≤◌, ◌<◌, replicate};

@@ -1,5 +1,6 @@
 // Check 4: the operands of a term, one by one.
 #![tactic(auto)]
+
 ghost use Rattle.std.specs.Prelude.{◌≡◌, ◌&&◌, not, ◌<◌, ltb, eqb};
 ghost use Rattle.plan_packed.specs.Format.{mask};
 ghost use Rattle.plan_packed.specs.Refusals.{wrong_operand};

@@ -1,6 +1,7 @@
 // The parts of a term's 40 bits: the tag, then the operands of the table, then spare bits. Check 7 and the run, which know what a term means, take it apart by
 // the functions here; checks 4 to 6 take a tag's operands from its row.
 #![tactic(auto)]
+
 pub mod rows; // rows.rt: the operands of each tag
 pub mod tags; // tags.rt: the tags by name
 

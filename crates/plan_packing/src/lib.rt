@@ -1,5 +1,6 @@
 // The 40 bits of a term, made of its old ones and of its children's new numbers, and their place in a plan. Spare bits are zero.
 #![tactic(auto)]
+
 ghost use Rattle.std.specs.Prelude.{◌≡◌, ◌+◌, ◌*◌, ◌^◌, ◌<◌, ◌≤◌, length};
 ghost use Rattle.std.proofs.lemmas.List.Edits.{sets};
 ghost use Rattle.plan_packed.specs.Inner.Operands.{tag_of, procedure_bits};

@@ -1,5 +1,6 @@
 // An expression's tokens into terms, by a stack of goals.
 #![tactic(auto)]
+
 mod arguments; // arguments.rt: the turns of a token, a slot, a procedure, its arguments, and fields
 mod followers; // followers.rt: the turn behind an operand
 mod forms; // forms.rt: the forms that begin with a word

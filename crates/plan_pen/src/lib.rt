@@ -1,5 +1,6 @@
 // Where writing stands, and what stands before a token.
 #![tactic(auto)]
+
 pub mod looks; // looks.rt: what each token says of the gaps at it
 
 ghost use Rattle.std.specs.Prelude.{◌≡◌, ◌<◌, ◌≤◌, length};

@@ -1,5 +1,6 @@
 // A plan's tokens, read into arrays: its terms, and the root and the parameter count of each procedure.
 #![tactic(auto)]
+
 ghost use Rattle.std.specs.Prelude.{◌+◌, ◌≤◌, ◌<◌, ◌≡◌, length};
 ghost use Rattle.plan_packed.specs.Inner.Steps.{Ordered};
 ghost use Rattle.text.specs.Inner.Wrote.{Wrote};

@@ -1,5 +1,6 @@
 // What a check answers: nothing is wrong, or document 01's number and place of the refusal.
 #![tactic(auto)]
+
 ghost use Rattle.std.specs.Prelude.{◌≡◌};
 
 // What any check of a plan, of a schedule or of a lent area answers.

@@ -1,5 +1,6 @@
 // Check 7 where a plan passes it: the scope of each term, the slots that are bound there, bit x for slot x, handed from each term to its children.
 #![tactic(auto)]
+
 ghost use Rattle.std.specs.Prelude.{◌≡◌, true, false, ◌||◌, not, [], ◌∷◌, ℕ, ◌<◌, eqb, replicate};
 ghost use Rattle.plan_packed.specs.Refusals.{not_named_once, uses_unbound_slot};
 ghost use Rattle.plan_packed.specs.Inner.Operands.{tag_of, slot_bits};

@@ -1,5 +1,6 @@
 // Whether a tag occurs among a plan's terms.
 #![tactic(auto)]
+
 ghost use Rattle.std.specs.Prelude.{◌≡◌, ◌<◌, eqb};
 ghost use Rattle.plan_packed.specs.Refusals.{any_below};
 ghost use Rattle.plan_packed.specs.Inner.Steps.{tag_in};

@@ -1,5 +1,6 @@
 // The 40 bits of a term, made of its tag and its operands. Spare bits are zero.
 #![tactic(auto)]
+
 ghost use Rattle.std.specs.Prelude.{◌≡◌, ◌<◌, ◌^◌};
 ghost use Rattle.plan_packed.specs.Format.{width, layout};
 ghost use Rattle.plan_written.specs.Terms.{word_of};

@@ -1,5 +1,6 @@
 // The tokens of a tree, written by a stack of items: a token, or the tree at a term in a context. A term is replaced by the items of its row.
 #![tactic(auto)]
+
 pub mod rows; // rows.rt: the rows
 
 ghost use Rattle.std.specs.Prelude.{◌+◌, ◌-◌, ◌*◌, ◌≤◌, ◌<◌, ◌≡◌, ◌∷◌, [], ◌++◌, length};

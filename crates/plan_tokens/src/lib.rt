@@ -1,5 +1,6 @@
 // The tokens of a plan: its version, its volatile fields, main, and the other procedures.
 #![tactic(auto)]
+
 ghost use Rattle.std.specs.Prelude.{◌+◌, ◌-◌, ◌≤◌, ◌<◌, ◌≡◌, length};
 ghost use Rattle.plan_packed.specs.Format.{version, fields_from, procedures};
 ghost use Rattle.plan_packed.specs.Trees.{program_of};

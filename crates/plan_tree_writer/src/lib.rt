@@ -2,6 +2,7 @@
 // below it before the next. A term's last child is a turn of the loop and every other one a call, so what is left of a term is an answer (`Left`); an
 // expression without children is written in place of a call (`write_child`).
 #![tactic(auto)]
+
 ghost use Rattle.std.specs.Prelude.{◌≡◌, ◌<◌};
 ghost use Rattle.plan_packed.specs.Inner.Steps.{Ordered};
 ghost use mir.Val.{has_key};

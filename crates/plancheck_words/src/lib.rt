@@ -1,5 +1,6 @@
 // What the program plancheck answers to a word, a plan as it is given and a schedule: the whole text.
 #![tactic(auto)]
+
 ghost use Rattle.std.specs.Prelude.{◌≤◌, ◌≡◌, length, take};
 ghost use Rattle.text_answer_lines.specs.Inner.Told.{Told};
 ghost use Rattle.plancheck_words.specs.Words.{Says, Answers};

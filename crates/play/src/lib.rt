@@ -1,5 +1,6 @@
 // The entry `play`: a schedule on a plan, its records into a log area.
 #![tactic(auto)]
+
 pub mod outcome;
 
 ghost use Rattle.std.specs.Prelude.{◌≤◌, ◌+◌, ◌*◌, ◌≡◌, length};

@@ -1,5 +1,6 @@
 // The entry `preview`: what the next pick would do after a schedule (document 02, E1).
 #![tactic(auto)]
+
 ghost use Rattle.std.specs.Prelude.{◌+◌, ◌≤◌, ◌≡◌, [], ◌∷◌, ◌++◌, length};
 ghost use Rattle.text.specs.Inner.Wrote.{Wrote};
 ghost use Rattle.play.specs.Inner.RunOn.{Given};

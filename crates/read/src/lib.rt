@@ -1,5 +1,6 @@
 // The entry `read`: a text, in document 01's own notation, as a packed plan in the one way that document 02, E5, names.
 #![tactic(auto)]
+
 ghost use Rattle.std.specs.Prelude.{◌<◌, ◌≤◌, ◌≡◌, length, [], ◌∷◌};
 ghost use Rattle.plan_writer.specs.Inner.Held.{held_program};
 ghost use Rattle.read.specs.Read.{failed_at, read_answer, read_area};

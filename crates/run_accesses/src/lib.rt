@@ -1,5 +1,6 @@
 // What a read or a write of a field does, by value.
 #![tactic(auto)]
+
 ghost use Rattle.std.specs.Prelude.{◌≡◌};
 ghost use Rattle.run_accesses.specs.Inner.Accesses.{passed_of, act_read, act_write};
 

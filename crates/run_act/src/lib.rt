@@ -1,5 +1,6 @@
 // Act: what a move does, by value.
 #![tactic(auto)]
+
 ghost use Rattle.std.specs.Prelude.{◌≡◌};
 ghost use Rattle.run_act.specs.Inner.Act.{goes_on_by, act_pure, changes_by, act_of};
 

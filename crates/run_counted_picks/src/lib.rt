@@ -1,5 +1,6 @@
 // Whether each pick of a run counted: it moved, or stopped the run (document 02, E11).
 #![tactic(auto)]
+
 ghost use Rattle.std.specs.Prelude.{◌+◌, ◌≤◌, ◌≡◌, eqb};
 ghost use Rattle.run_counted_picks.specs.Inner.Counted.{stop_count};
 

@@ -2,6 +2,7 @@
 // an array of numbers that only refocusing touches, the places of threads in queues in one that only a signal changes. What is made is stored past the
 // present ones, and counts once it is counted.
 #![tactic(auto)]
+
 ghost use Rattle.std.specs.Prelude.{◌≡◌, ◌≤◌};
 ghost use Rattle.run_engine.specs.Inner.Engine.{Placed, head_of, no_object, thread_by, start_of};
 ghost use Rattle.run_state.specs.Inner.Acted.{nothing};

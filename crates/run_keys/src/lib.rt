@@ -1,5 +1,6 @@
 // Sets of write keys 0 to 255, by value (document 01, "How a thread moves").
 #![tactic(auto)]
+
 ghost use Rattle.std.specs.Prelude.{◌≤◌, ◌≡◌};
 ghost use Rattle.run_keys.specs.Keys.{empty, singleton, holds, union, is_empty};
 ghost use Rattle.run_keys.specs.Inner.KeySet.{keys_of, word_of, empty_set, zero_set, holds_of, learn_of, new_in, is_empty_of, Made, Joins, Told};

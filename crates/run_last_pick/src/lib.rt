@@ -1,5 +1,6 @@
 // What the last pick of a run did, as a preview answers it (document 02, E1).
 #![tactic(auto)]
+
 ghost use Rattle.std.specs.Prelude.{◌*◌, ◌-◌, ◌≤◌, ◌≡◌, length};
 ghost use Rattle.run_last_pick.specs.Inner.LastPick.{record_in, last_pick, LastGiven};
 

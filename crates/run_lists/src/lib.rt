@@ -1,6 +1,7 @@
 // A call's list as one number that tells where in the slots its values come from, so that a call takes all its arguments at once. A list is read when a run
 // first comes to it; its number is kept.
 #![tactic(auto)]
+
 ghost use Rattle.std.specs.Prelude.{◌≡◌, ◌<◌, ◌≤◌, ◌/◌, ◌%◌};
 ghost use Rattle.run_lists.specs.Inner.Lists.{code_by, valued_at, next_from, head_by, told_of, values_of, Right};
 

@@ -1,5 +1,6 @@
 // Look: what a thread's next pick meets, apart from room, and the state that an outcome gives it.
 #![tactic(auto)]
+
 ghost use Rattle.std.specs.Prelude.{◌≡◌, ◌<◌};
 ghost use Rattle.run_look.specs.Inner.Look.{object_of, field_of, has_of, look_field, look_join, look_synch, look_signal, look_waiting, about_field, look_of};
 ghost use Rattle.run_look.specs.Inner.Look.{blocked_of, state_of};

@@ -1,5 +1,6 @@
 // What a synch does at its start and at its end, a wait or a notify, and a thread that wakes, by value.
 #![tactic(auto)]
+
 ghost use Rattle.std.specs.Prelude.{◌≡◌};
 ghost use Rattle.run_monitors.specs.Inner.Monitors.{act_synch, act_hold, act_wait, act_signal, act_wake};
 

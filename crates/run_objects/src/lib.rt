@@ -1,5 +1,6 @@
 // What a new, a fork or a join does, by value.
 #![tactic(auto)]
+
 ghost use Rattle.std.specs.Prelude.{◌≡◌};
 ghost use Rattle.run_objects.specs.Inner.Objects.{act_new, act_fork, act_join};
 

@@ -1,5 +1,6 @@
 // Which threads of a run can be picked: those that can move, or stop the run for a missing key or for room.
 #![tactic(auto)]
+
 ghost use Rattle.std.specs.Prelude.{◌≤◌, ◌≡◌};
 ghost use Rattle.run_open_threads.specs.Inner.Open.{is_open, absent, open_at, LowestFrom, GoesOnBy};
 

@@ -2,6 +2,7 @@
 // move
 // that only goes on elsewhere is a case of its own, in which nothing but the thread's head is looked at.
 #![tactic(auto)]
+
 ghost use Rattle.std.specs.Prelude.{◌≡◌, ◌<◌, ◌+◌, ◌%◌, false};
 ghost use Rattle.run_act.specs.Inner.Act.{goes_on_by, act_pure};
 ghost use Rattle.run_state.specs.Inner.Acted.{no_entry};

@@ -1,5 +1,6 @@
 // Notes, a byte to each place of a run: 16 times the lowest thread that can be picked there, and the lowest above the pick, or 8.
 #![tactic(auto)]
+
 ghost use Rattle.std.specs.Prelude.{◌≤◌, length};
 ghost use Rattle.run_place_notes.specs.Inner.Notes.{NoteOf, Puts, PutNoted, LastDeparture};
 

@@ -1,5 +1,6 @@
 // What a run costs by its moves, in cents (document 02, E13).
 #![tactic(auto)]
+
 ghost use Rattle.std.specs.Prelude.{◌≡◌, ◌≤◌};
 ghost use Rattle.run_prices.specs.Price.{price};
 

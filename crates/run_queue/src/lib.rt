@@ -1,6 +1,7 @@
 // The places of eight threads in the queues of monitors: number * 32 + object, where the number says how many threads that are not yet notified have
 // waited on the object as long or longer, and 0 is no place in the queue.
 #![tactic(auto)]
+
 ghost use Rattle.std.specs.Prelude.{◌≡◌, ◌≤◌, ◌<◌, length};
 ghost use Rattle.run_queue.specs.Inner.Queue.{queued_on, count_of, last_of, waited_of, nearer, notified_of, freed, all_notified_of, signalled_of, after_of};
 

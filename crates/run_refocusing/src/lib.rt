@@ -1,6 +1,7 @@
 // Refocusing: steps until the redex that moves next is found. The frames of all threads lie in one lent array, three numbers to a frame, 33 places to a
 // thread, of which the last is never part of the stack.
 #![tactic(auto)]
+
 ghost use Rattle.std.specs.Prelude.{◌≡◌, true, false, ◌<◌, ◌≤◌};
 ghost use Rattle.run_lists.specs.Inner.Lists.{Right};
 ghost use Rattle.run_refocusing.specs.Inner.Refocusing.{live_of, full_of, refocused_of, no_refocusing, refocusings_of, store_at, refocus_from, after_of};

@@ -1,5 +1,6 @@
 // One step of refocusing, the way down (an operand, a call's list, a term) or up with a value; before it, one for each value that comes next in a call's list.
 #![tactic(auto)]
+
 ghost use Rattle.std.specs.Prelude.{◌≡◌, ◌<◌, ◌≤◌, ◌-◌};
 ghost use Rattle.run_lists.specs.Inner.Lists.{Right};
 ghost use Rattle.run_refocusing_step.specs.Inner.Ahead.{next_of, gathered_of, called_of, going_of, Fits, stepped_of};

@@ -1,5 +1,6 @@
 // Refusals 1 to 10 of a play: of the plan, of the schedule, of the log area.
 #![tactic(auto)]
+
 ghost use Rattle.std.specs.Prelude.{◌≡◌, [], ◌∷◌, ◌++◌, replicate};
 ghost use Rattle.plan_packed.specs.Format.{terms};
 ghost use Rattle.plan_packed.specs.Inner.Steps.{Loaded};

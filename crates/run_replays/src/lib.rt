@@ -1,6 +1,7 @@
 // What one run of some picks tells: the pick of each place and the next higher thread that could be picked there, and whether the picks are a listed schedule
 // (document 02, E11).
 #![tactic(auto)]
+
 ghost use Rattle.plan_packed.specs.Trees.{program_of};
 ghost use Rattle.run_replays.specs.Inner.Replay.{Replayable, Explores};
 ghost use Rattle.run_replays.specs.Inner.Told.{Listable, ListedBy};

@@ -1,5 +1,6 @@
 // Refusals 8 to 10 of a play: of the schedule, and of the log area.
 #![tactic(auto)]
+
 ghost use Rattle.std.specs.Prelude.{◌+◌, ◌≤◌, ◌≡◌, [], ◌∷◌, ◌++◌, length};
 ghost use Rattle.format.specs.Refusal.{first_refusal};
 ghost use Rattle.format.specs.Inner.Lowest.{Lowest};

@@ -1,5 +1,6 @@
 // What a pick is about: the thread's head, a cell, an object, the counts; and what a move does to them.
 #![tactic(auto)]
+
 use run_frames::refocusing::Ready;
 use run_keys::KeySet;
 

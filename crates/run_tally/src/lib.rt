@@ -1,6 +1,7 @@
 // What a run counts and records: threads, objects and keys; moves; records, three bytes each in the log, for the moves that have one or for every move; and
 // what the run comes to by its counts.
 #![tactic(auto)]
+
 ghost use Rattle.std.specs.Prelude.{◌≡◌, ◌≤◌, ◌+◌, ◌*◌, length};
 ghost use Rattle.run_tally.specs.Inner.Tally.{shown_entry, tally_first, tally_put, tally_moved, log_put, result_of};
 

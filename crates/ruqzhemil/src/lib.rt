@@ -1,6 +1,7 @@
-// The entries for programs in C, Rust and other languages, each with a number for its answer. A slice is a pointer and a length.
+// The entries for programs in C, Rust and other languages, each with a number for its answer; the crate ruqzhemil_c hands them on.
 // The upper half of a number is 0 for an answer, 1 for the entry's other answer, 2 for a refusal, with number * 65536 + place in the lower half.
 #![tactic(auto)]
+
 ghost use Rattle.std.specs.Prelude.{◌≡◌, not, eqb};
 ghost use Rattle.plan_packed.specs.Check.{refusal};
 ghost use Rattle.rules.specs.Play.{played, area_after};
@@ -20,8 +21,7 @@ ghost use Rattle.abi_outcome.specs.Play.{out_after};
 ghost use Rattle.abi_version.specs.Version.{version};
 
 // 0 for a plan that passes; else the refusal.
-#[unsafe(no_mangle)]
-pub extern "C" fn ruqzhemil_check(plan: &[u8]) -> u64
+pub fn ruqzhemil_check(plan: &[u8]) -> u64
     ensures { result ≡ check_number (refusal plan.now) }
 {
     let checked = plan::check(plan);
@@ -29,13 +29,7 @@ pub extern "C" fn ruqzhemil_check(plan: &[u8]) -> u64
 }
 
 // 0 for a run, whose records begin the log area and whose outcome is in `out`; else the refusal, and neither area changed.
-#[unsafe(no_mangle)]
-pub extern "C" fn ruqzhemil_play(
-    plan: &[u8],
-    schedule: &[u8],
-    log: &mut [u8],
-    out: &mut [u8; 40],
-) -> u64
+pub fn ruqzhemil_play(plan: &[u8], schedule: &[u8], log: &mut [u8], out: &mut [u8; 40]) -> u64
     ensures answer { result ≡ play_number (played plan.now schedule.now log.old) }
     ensures area { log.new ≡ area_after plan.now schedule.now log.old }
     ensures bytes { out.new ≡ out_after out.old (played plan.now schedule.now log.old) }
@@ -45,8 +39,7 @@ pub extern "C" fn ruqzhemil_play(
 }
 
 // Of a log of plans of this version, 0 or 1: 0 for a log without an unordered access; the other answer is the index of the first one.
-#[unsafe(no_mangle)]
-pub extern "C" fn ruqzhemil_judge(version: u64, log: &[u8]) -> u64
+pub fn ruqzhemil_judge(version: u64, log: &[u8]) -> u64
     ensures { JudgeReturns version log.now result }
 {
     let judgement = judge::judge(version as usize, log);
@@ -54,13 +47,7 @@ pub extern "C" fn ruqzhemil_judge(version: u64, log: &[u8]) -> u64
 }
 
 // 0 for a preview, whose bytes are in `out`; else the refusal, and no byte changed.
-#[unsafe(no_mangle)]
-pub extern "C" fn ruqzhemil_preview(
-    plan: &[u8],
-    schedule: &[u8],
-    pick: u64,
-    out: &mut [u8; 8],
-) -> u64
+pub fn ruqzhemil_preview(plan: &[u8], schedule: &[u8], pick: u64, out: &mut [u8; 8]) -> u64
     ensures answer { result ≡ preview_number (previewed plan.now schedule.now pick) }
     ensures bytes { out.new ≡ preview.out_after out.old (previewed plan.now schedule.now pick) }
 {
@@ -69,8 +56,7 @@ pub extern "C" fn ruqzhemil_preview(
 }
 
 // The length in bytes of the plan, written in the one way, which begins the area; the area's other bytes, and all of them after a refusal, are as they were.
-#[unsafe(no_mangle)]
-pub extern "C" fn ruqzhemil_canonical(plan: &[u8], area: &mut [u8]) -> u64
+pub fn ruqzhemil_canonical(plan: &[u8], area: &mut [u8]) -> u64
     ensures answer { result ≡ answer_number (canonical_answer plan.now area.old) }
     ensures area { area.new ≡ canonical_area plan.now area.old }
 {
@@ -79,8 +65,7 @@ pub extern "C" fn ruqzhemil_canonical(plan: &[u8], area: &mut [u8]) -> u64
 }
 
 // The length in bytes of the plan's text, which begins the area; the area's other bytes, and all of them after a refusal, are as they were.
-#[unsafe(no_mangle)]
-pub extern "C" fn ruqzhemil_show(plan: &[u8], area: &mut [u8]) -> u64
+pub fn ruqzhemil_show(plan: &[u8], area: &mut [u8]) -> u64
     ensures answer { result ≡ answer_number (show_answer plan.now area.old) }
     ensures area { area.new ≡ show_area plan.now area.old }
 {
@@ -90,8 +75,7 @@ pub extern "C" fn ruqzhemil_show(plan: &[u8], area: &mut [u8]) -> u64
 
 // The length in bytes of the plan that the text is, written in the one way, which begins the area; the other answer is the line and the column where
 // reading stops. The area's other bytes, and all of them where it stops or after a refusal, are as they were.
-#[unsafe(no_mangle)]
-pub extern "C" fn ruqzhemil_read(text: &[u8], area: &mut [u8]) -> u64
+pub fn ruqzhemil_read(text: &[u8], area: &mut [u8]) -> u64
     ensures answer { result ≡ read_number (read_answer text.now area.old) }
     ensures area { area.new ≡ read_area text.now area.old }
 {
@@ -100,8 +84,7 @@ pub extern "C" fn ruqzhemil_read(text: &[u8], area: &mut [u8]) -> u64
 }
 
 // The length in bytes of the log's COMTRADE data file, which begins the area; the area's other bytes, and all of them after a refusal, are as they were.
-#[unsafe(no_mangle)]
-pub extern "C" fn ruqzhemil_comtrade(log: &[u8], area: &mut [u8]) -> u64
+pub fn ruqzhemil_comtrade(log: &[u8], area: &mut [u8]) -> u64
     ensures answer { result ≡ answer_number (comtrade_answer log.now area.old) }
     ensures area { area.new ≡ comtrade_area log.now area.old }
 {
@@ -111,8 +94,7 @@ pub extern "C" fn ruqzhemil_comtrade(log: &[u8], area: &mut [u8]) -> u64
 
 // From a run that stopped for a missing key, the length of the schedule after which the two accesses stand side by side, which begins the area; the area's
 // other bytes, and all of them after a refusal, are as they were.
-#[unsafe(no_mangle)]
-pub extern "C" fn ruqzhemil_witness(plan: &[u8], schedule: &[u8], area: &mut [u8]) -> u64
+pub fn ruqzhemil_witness(plan: &[u8], schedule: &[u8], area: &mut [u8]) -> u64
     ensures { WitnessReturns plan.now schedule.now area.old result area.new }
 {
     let answered = witness::witness(plan, schedule, area);
@@ -121,8 +103,7 @@ pub extern "C" fn ruqzhemil_witness(plan: &[u8], schedule: &[u8], area: &mut [u8
 
 // The length of the first schedule of at most n picks that is listed, which begins the area; the area's other bytes, and all of them after a refusal, are as
 // they were.
-#[unsafe(no_mangle)]
-pub extern "C" fn ruqzhemil_first_interleaving(plan: &[u8], n: u64, area: &mut [u8]) -> u64
+pub fn ruqzhemil_first_interleaving(plan: &[u8], n: u64, area: &mut [u8]) -> u64
     ensures { FirstReturns plan.now n area.old result area.new }
 {
     let answered = interleavings::first_interleaving(plan, n as usize, area);
@@ -131,13 +112,7 @@ pub extern "C" fn ruqzhemil_first_interleaving(plan: &[u8], n: u64, area: &mut [
 
 // The length of the schedule that follows a listed one, which begins the area; the other answer is that the list is over. The area's other bytes, and all of
 // them where the list is over or after a refusal, are as they were.
-#[unsafe(no_mangle)]
-pub extern "C" fn ruqzhemil_next_interleaving(
-    plan: &[u8],
-    n: u64,
-    schedule: &[u8],
-    area: &mut [u8],
-) -> u64
+pub fn ruqzhemil_next_interleaving(plan: &[u8], n: u64, schedule: &[u8], area: &mut [u8]) -> u64
     ensures { NextReturns plan.now n schedule.now area.old result area.new }
 {
     let next = interleavings::next_interleaving(plan, n as usize, schedule, area);
@@ -145,8 +120,7 @@ pub extern "C" fn ruqzhemil_next_interleaving(
 }
 
 // How many moves a plan can need at most: no schedule makes more.
-#[unsafe(no_mangle)]
-pub extern "C" fn ruqzhemil_bound(plan: &[u8]) -> u64
+pub fn ruqzhemil_bound(plan: &[u8]) -> u64
     ensures { result ≡ answer_number (bounded plan.now) }
 {
     let answered = bound::bound(plan);
@@ -154,8 +128,7 @@ pub extern "C" fn ruqzhemil_bound(plan: &[u8]) -> u64
 }
 
 // What a run of the schedule on the plan is charged, in cents; an option of 0 is without, any other with.
-#[unsafe(no_mangle)]
-pub extern "C" fn ruqzhemil_charge(plan: &[u8], schedule: &[u8], option: u64) -> u64
+pub fn ruqzhemil_charge(plan: &[u8], schedule: &[u8], option: u64) -> u64
     ensures { result ≡ answer_number (charged plan.now schedule.now (not (eqb option 0))) }
 {
     let answered = charge::charge(plan, schedule, option != 0);
@@ -163,8 +136,7 @@ pub extern "C" fn ruqzhemil_charge(plan: &[u8], schedule: &[u8], option: u64) ->
 }
 
 // The version of these entries.
-#[unsafe(no_mangle)]
-pub extern "C" fn ruqzhemil_version() -> u64
+pub fn ruqzhemil_version() -> u64
     ensures { result ≡ version }
 {
     abi_version::version()

@@ -1,5 +1,6 @@
 // The entry `show`: an accepted plan as text, in document 01's own notation, into an area.
 #![tactic(auto)]
+
 ghost use Rattle.std.specs.Prelude.{◌+◌, ◌≤◌, ◌<◌, ◌≡◌, length};
 ghost use Rattle.plan_packed.specs.Trees.{program_of};
 ghost use Rattle.plan_notation.specs.Inner.Known.{Known};

@@ -13,6 +13,7 @@
 // an interleaving: the lengths of plan, schedule and area, two bytes each; a byte, 0 for first_interleaving; n and what is returned, eight bytes each; then
 // plan, schedule and the written schedule, empty where there is none. A case that ends before the parts that its lengths name is wrong.
 #![tactic(auto)]
+
 ghost use Rattle.std.specs.Prelude.{◌+◌, ◌≤◌, length};
 
 use judge::Judgement;

@@ -1,5 +1,6 @@
 // Bytes, words and numbers into a text area, each behind the text that is there.
 #![tactic(auto)]
+
 ghost use Rattle.std.specs.Prelude.{◌+◌, ◌≤◌, ◌<◌, [], ◌∷◌, length};
 ghost use Rattle.text.specs.Text.{decimal};
 ghost use Rattle.text.specs.Inner.Wrote.{Wrote};

@@ -1,5 +1,6 @@
 // The answer of a tool that has written its text into an area, as the length of what is told there: that text, or the lines of what refused it.
 #![tactic(auto)]
+
 ghost use Rattle.std.specs.Prelude.{◌≤◌, length};
 ghost use Rattle.answers.specs.Answer as answers;
 ghost use Rattle.text_answer_lines.specs.Inner.Told.{Settled};

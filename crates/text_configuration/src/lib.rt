@@ -1,5 +1,6 @@
 // The configuration file that goes with the data file of a log (document 02, E14).
 #![tactic(auto)]
+
 ghost use Rattle.std.specs.Prelude.{◌+◌, ◌≤◌, ◌<◌, length};
 ghost use Rattle.text.specs.Inner.Wrote.{Wrote};
 ghost use Rattle.text_configuration.specs.Configuration.{channel_line, channel_lines, last_lines, configuration_file};

@@ -1,5 +1,6 @@
 // The picture of a log as SVG text: a lane for each thread, a row for each record, arrows between records, and a race in red.
 #![tactic(auto)]
+
 mod head; // head.rt: what stands before the lanes
 mod lanes; // lanes.rt: the lanes of threads
 

@@ -1,5 +1,6 @@
 // Attributes with a number, and straight lines.
 #![tactic(auto)]
+
 ghost use Rattle.std.specs.Prelude.{◌+◌, ◌≤◌, ◌<◌, length};
 ghost use Rattle.text_diagram_elements.specs.Diagram.{attribute, segment};
 ghost use Rattle.text_diagram_elements.specs.Inner.Drawn.{Drawn, Inside};

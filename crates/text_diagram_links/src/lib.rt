@@ -1,5 +1,6 @@
 // Lines between the marks of records: arrows, and the line of a race.
 #![tactic(auto)]
+
 ghost use Rattle.std.specs.Prelude.{◌+◌, ◌*◌, ◌/◌, ◌≤◌, ◌<◌, length};
 ghost use Rattle.log_records.specs.Packed.{log_of};
 ghost use Rattle.text_diagram_elements.specs.Diagram.{between, arrow_texts, race_text, arrows_of, race_of};

@@ -1,5 +1,6 @@
 // The rows of records.
 #![tactic(auto)]
+
 ghost use Rattle.std.specs.Prelude.{◌+◌, ◌*◌, ◌/◌, ◌≤◌, ◌<◌, ◌≡◌, length};
 ghost use Rattle.log_records.specs.Packed.{log_of};
 ghost use Rattle.log_packing.specs.Inner.Columns.{Narrow};

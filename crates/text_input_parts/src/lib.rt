@@ -1,5 +1,6 @@
 // The parts of what the printing program reads (document 01, "Shot list"): a plan length of 16 bits, a plan and a schedule.
 #![tactic(auto)]
+
 ghost use Rattle.std.specs.Prelude.{◌≡◌, false};
 ghost use Rattle.text_input_parts.specs.Input.{cut_short, plan_read, schedule_read};
 

@@ -1,5 +1,6 @@
 // All interleavings of a short plan as lines of digits, and how many there are (document 02, E11).
 #![tactic(auto)]
+
 ghost use Rattle.std.specs.Prelude.{◌+◌, ◌≤◌, length};
 ghost use Rattle.text.specs.Inner.Wrote.{Wrote};
 ghost use Rattle.text_answer_lines.specs.Inner.Told.{Told};

@@ -1,5 +1,6 @@
 // The judge's answer to a log in words: the access that it names and the last earlier one that conflicts with it and from which no chain leads to it.
 #![tactic(auto)]
+
 pub mod search; // search.rt: which earlier access that is
 
 ghost use Rattle.std.specs.Prelude.{◌≤◌, length};

@@ -1,5 +1,6 @@
 // The last line of a run (document 01, "Shot list"), written behind the text that is there.
 #![tactic(auto)]
+
 ghost use Rattle.std.specs.Prelude.{◌+◌, ◌≤◌, length};
 ghost use Rattle.play.specs.Answer.{stop_of};
 ghost use Rattle.text.specs.Inner.Wrote.{Wrote};

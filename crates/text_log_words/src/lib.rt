@@ -1,5 +1,6 @@
 // What the program plancheck answers to a word about a log: the whole text.
 #![tactic(auto)]
+
 ghost use Rattle.std.specs.Prelude.{◌≤◌, ◌≡◌, length, take};
 ghost use Rattle.text_judge_lines.specs.Told.{LogTold};
 ghost use Rattle.diagram.specs.Picture.{Picture};

@@ -1,5 +1,6 @@
 // What a thread does by a move, in words.
 #![tactic(auto)]
+
 ghost use Rattle.std.specs.Prelude.{◌+◌, ◌≤◌, ◌++◌, length};
 ghost use Rattle.log_packing.specs.Inner.Columns.{Narrow};
 ghost use Rattle.text_record_lines.specs.Inner.Columns.{record_of};

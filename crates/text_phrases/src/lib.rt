@@ -1,5 +1,6 @@
 // A word and a number of a sentence, written behind the text that is there.
 #![tactic(auto)]
+
 ghost use Rattle.std.specs.Prelude.{◌+◌, ◌≤◌, ◌++◌, length};
 ghost use Rattle.text.specs.Text.{decimal};
 ghost use Rattle.text.specs.Inner.Wrote.{Wrote};

@@ -1,5 +1,6 @@
 // What the tools answer to a plan alone, in words, each at the start of an area.
 #![tactic(auto)]
+
 ghost use Rattle.std.specs.Prelude.{◌≤◌, length};
 ghost use Rattle.text.specs.Inner.Wrote.{Wrote};
 ghost use Rattle.text_plan_words.specs.Texts.{check_text, plan_text, show_text, canonical_text, bound_line, bound_text};

@@ -1,5 +1,6 @@
 // A play in words: the shot list of its run, and of a run that stopped for want of a key the two records between which nothing leads.
 #![tactic(auto)]
+
 ghost use Rattle.answers.specs.Answer.{answered};
 ghost use Rattle.text_play_lines.specs.Told.{PlayTold};
 ghost use Rattle.text_play_lines.specs.Inner.Written.{RunRoom, WroteRun};

@@ -1,5 +1,6 @@
 // What the next pick would do after a schedule, in words.
 #![tactic(auto)]
+
 mod stops; // stops.rt: what stops a run, in words
 
 ghost use Rattle.std.specs.Prelude.{◌≤◌, [], ◌∷◌, ◌++◌, length};

@@ -1,5 +1,6 @@
 // The line of a text that is no plan, written behind the text that is there.
 #![tactic(auto)]
+
 mod reasons; // reasons.rt: the sentences as one row of bytes
 
 ghost use Rattle.std.specs.Prelude.{◌+◌, ◌≤◌, ◌<◌, ◌≡◌, length};

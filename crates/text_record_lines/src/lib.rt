@@ -1,5 +1,6 @@
 // The line of a record of a log (document 01, "Shot list"), written behind the text that is there.
 #![tactic(auto)]
+
 ghost use Rattle.std.specs.Prelude.{◌+◌, ◌≤◌, ◌<◌, length};
 ghost use Rattle.log_records.specs.Packed.{kind_of};
 ghost use Rattle.text.specs.Inner.Wrote.{Wrote};

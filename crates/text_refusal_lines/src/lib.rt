@@ -1,5 +1,6 @@
 // The line of a refusal (document 01, "Shot list"), and behind it its sentence, each written behind the text that is there.
 #![tactic(auto)]
+
 mod sentences; // sentences.rt: the sentences as one row of bytes
 
 ghost use Rattle.std.specs.Prelude.{◌+◌, ◌≤◌, length};

@@ -1,5 +1,6 @@
 // The lines of a run (document 01, "Shot list"): one for each record, and the last line.
 #![tactic(auto)]
+
 ghost use Rattle.std.specs.Prelude.{◌≤◌, ◌++◌, length};
 ghost use Rattle.log_records.specs.Packed.{log_of};
 ghost use Rattle.play.specs.Answer.{stop_of};

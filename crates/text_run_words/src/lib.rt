@@ -1,5 +1,6 @@
 // What the tools answer to a plan and a schedule, in words, each at the start of an area.
 #![tactic(auto)]
+
 pub mod told; // told.rt: plays, their logs and their threads' states, and previews
 
 ghost use Rattle.std.specs.Prelude.{◌≤◌, length};

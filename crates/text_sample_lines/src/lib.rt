@@ -1,5 +1,6 @@
 // A line of the data file of a log (document 02, E14), written behind the text that is there.
 #![tactic(auto)]
+
 mod small; // small.rt: numbers below 10,000
 
 ghost use Rattle.std.specs.Prelude.{◌+◌, ◌≤◌, ◌<◌, ◌≡◌, List, [], ◌∷◌, ◌++◌, length};

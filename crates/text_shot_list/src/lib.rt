@@ -1,5 +1,6 @@
 // The text of a shot list (document 01, "Shot list"): what the printing program writes for the bytes that it reads.
 #![tactic(auto)]
+
 ghost use Rattle.std.specs.Prelude.{ℕ, ◌≤◌, ◌≡◌, List, length, take};
 ghost use Rattle.text.specs.Inner.Wrote.{Wrote};
 ghost use Rattle.text_shot_list.specs.Printed.{play_text, printed, TextWritten};

@@ -1,5 +1,6 @@
 // The states of a run's threads in words: a line to each thread that is there.
 #![tactic(auto)]
+
 ghost use Rattle.std.specs.Prelude.{◌≡◌, ◌+◌, ◌≤◌, length};
 ghost use Rattle.answers.specs.Answer.{answered};
 ghost use Rattle.play.specs.Answer.{status_of};

@@ -1,5 +1,6 @@
 // What a thread's next pick would meet, in words behind the thread's name.
 #![tactic(auto)]
+
 ghost use Rattle.std.specs.Prelude.{◌+◌, ◌≤◌, length};
 ghost use Rattle.play.specs.Answer.{wait_of, stuck_of, status_of};
 ghost use Rattle.text.specs.Inner.Wrote.{Wrote};

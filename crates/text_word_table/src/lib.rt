@@ -1,5 +1,6 @@
 // A word of a table that is kept as one row of bytes, written behind the text that is there.
 #![tactic(auto)]
+
 ghost use Rattle.text.specs.Inner.Wrote.{Wrote};
 ghost use Rattle.text_word_table.specs.Inner.Table.{word_at, Room};
 

@@ -1,5 +1,6 @@
 // The entry comtrade (document 02, E14): a log as an ASCII data file of IEEE C37.111-1999, the monitors as digital values.
 #![tactic(auto)]
+
 mod lengths; // lengths.rt: the length of a file by the count of records
 
 ghost use Rattle.std.specs.Prelude.{◌<◌, ◌≤◌, ◌≡◌, length};

@@ -1,6 +1,7 @@
 // The entry `witness` (document 02, E10): from a run that stopped for a missing key, a schedule after which the last write and the failing access stand side
 // by side.
 #![tactic(auto)]
+
 ghost use Rattle.answers.specs.Answer.{answered};
 ghost use Rattle.witness.specs.Witness.{Witnesses};
 ghost use Rattle.witness.specs.Inner.Passing.{Passing};

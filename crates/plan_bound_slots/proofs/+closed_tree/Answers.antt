@@ -75,24 +75,27 @@ pub closed_condition-returns-in-Closed : goal.closed_condition-returns-in-Closed
 unfolding seen
 closed_condition-returns-in-Closed t c =
     let r = c.rest_of_two-rest in
-    equal_told _ _ c.loop-term.invariant (rw c.word-word.ensures at (sym c.tag.ensures ∙ c.in-15.is)) r.result
-    (rw (c.first-first.ensures, c.second-second.ensures, c.word-word.ensures) at r.ensures.result_value,
-    rw (c.first-first.ensures, c.second-second.ensures, c.word-word.ensures) at r.ensures.by_index) Closed c.in-Closed.is
+    equal_told _ _ c.loop-term.invariant (rw c.word-word.ensures at (sym c.tag.ensures ∙ c.in-15.is)) r.result (
+      rw (c.first-first.ensures, c.second-second.ensures, c.word-word.ensures) at r.ensures.result_value,
+      rw (c.first-first.ensures, c.second-second.ensures, c.word-word.ensures) at r.ensures.by_index,
+    ) Closed c.in-Closed.is
 
 pub closed_condition-returns-in-Open : goal.closed_condition-returns-in-Open
 unfolding seen
 closed_condition-returns-in-Open t c =
     let r = c.rest_of_two-rest in
-    equal_told _ _ c.loop-term.invariant (rw c.word-word.ensures at (sym c.tag.ensures ∙ c.in-15.is)) r.result
-    (rw (c.first-first.ensures, c.second-second.ensures, c.word-word.ensures) at r.ensures.result_value,
-    rw (c.first-first.ensures, c.second-second.ensures, c.word-word.ensures) at r.ensures.by_index) Open c.in-Open.is
+    equal_told _ _ c.loop-term.invariant (rw c.word-word.ensures at (sym c.tag.ensures ∙ c.in-15.is)) r.result (
+      rw (c.first-first.ensures, c.second-second.ensures, c.word-word.ensures) at r.ensures.result_value,
+      rw (c.first-first.ensures, c.second-second.ensures, c.word-word.ensures) at r.ensures.by_index,
+    ) Open c.in-Open.is
 
 pub closed_condition-closed_expression-requires : goal.closed_condition-closed_expression-requires
 closed_condition-closed_expression-requires t c =
     let r = c.rest_of_two-rest in
-    equal_next _ _ c.loop-term.invariant (rw c.word-word.ensures at (sym c.tag.ensures ∙ c.in-15.is)) r.result
-    (rw (c.first-first.ensures, c.second-second.ensures, c.word-word.ensures) at r.ensures.result_value,
-    rw (c.first-first.ensures, c.second-second.ensures, c.word-word.ensures) at r.ensures.by_index) t _ _
+    equal_next _ _ c.loop-term.invariant (rw c.word-word.ensures at (sym c.tag.ensures ∙ c.in-15.is)) r.result (
+      rw (c.first-first.ensures, c.second-second.ensures, c.word-word.ensures) at r.ensures.result_value,
+      rw (c.first-first.ensures, c.second-second.ensures, c.word-word.ensures) at r.ensures.by_index,
+    ) t _ _
     c.decreases c.in-At.is
 
 pub closed_condition-returns-in-At : goal.closed_condition-returns-in-At
@@ -100,9 +103,10 @@ unfolding seen
 closed_condition-returns-in-At t c =
     let r = c.rest_of_two-rest in
     c.closed_expression.ensures ∙ equal_told _ _ c.loop-term.invariant (rw c.word-word.ensures at (sym c.tag.ensures ∙ c.in-15.is))
-    r.result
-    (rw (c.first-first.ensures, c.second-second.ensures, c.word-word.ensures) at r.ensures.result_value,
-    rw (c.first-first.ensures, c.second-second.ensures, c.word-word.ensures) at r.ensures.by_index) _
+    r.result (
+      rw (c.first-first.ensures, c.second-second.ensures, c.word-word.ensures) at r.ensures.result_value,
+      rw (c.first-first.ensures, c.second-second.ensures, c.word-word.ensures) at r.ensures.by_index,
+    ) _
     c.in-At.is
 
 pub closed_condition-returns-in_default : goal.closed_condition-returns-in_default
@@ -204,9 +208,10 @@ rest_of-rest_of_two-requires-then-closed_condition t c =
 pub rest_of-returns-then-closed_condition : goal.rest_of-returns-then-closed_condition
 rest_of-returns-then-closed_condition t c =
     let p = if_left _ c.requires.ordered _ _ _ (rw c.word-word.ensures at (sym c.tag.ensures ∙ c.in-6.is))
-    (rw (c.first-first.ensures, c.word-word.ensures) at (sym c.closed_condition.ensures ∙ c.if-closed_condition.true))
-    (rw (c.second-second.ensures, c.third.ensures, c.word-word.ensures) at c.rest_of_two-then-closed_condition.ensures.result_value,
-    rw (c.second-second.ensures, c.third.ensures, c.word-word.ensures) at c.rest_of_two-then-closed_condition.ensures.by_index) in
+    (rw (c.first-first.ensures, c.word-word.ensures) at (sym c.closed_condition.ensures ∙ c.if-closed_condition.true)) (
+      rw (c.second-second.ensures, c.third.ensures, c.word-word.ensures) at c.rest_of_two-then-closed_condition.ensures.result_value,
+      rw (c.second-second.ensures, c.third.ensures, c.word-word.ensures) at c.rest_of_two-then-closed_condition.ensures.by_index,
+    ) in
     record { result_value = p.0; after = p.1 }
 
 pub rest_of-closed_condition-requires-in-7 : goal.rest_of-closed_condition-requires-in-7
@@ -248,17 +253,19 @@ rest_of-returns-in-3 t c =
 
 pub rest_of-returns-in-4 : goal.rest_of-returns-in-4
 rest_of-returns-in-4 t c =
-    let p = write_left _ c.requires.ordered _ _ _ (rw c.word-word.ensures at (sym c.tag.ensures ∙ c.in-4.is))
-    (rw (c.first-first.ensures, c.write_second.ensures, c.word-word.ensures) at c.rest_of_two.ensures.result_value,
-    rw (c.first-first.ensures, c.write_second.ensures, c.word-word.ensures) at c.rest_of_two.ensures.by_index) in
+    let p = write_left _ c.requires.ordered _ _ _ (rw c.word-word.ensures at (sym c.tag.ensures ∙ c.in-4.is)) (
+      rw (c.first-first.ensures, c.write_second.ensures, c.word-word.ensures) at c.rest_of_two.ensures.result_value,
+      rw (c.first-first.ensures, c.write_second.ensures, c.word-word.ensures) at c.rest_of_two.ensures.by_index,
+    ) in
     record { result_value = p.0; after = p.1 }
 
 pub rest_of-returns-in-5 : goal.rest_of-returns-in-5
 rest_of-returns-in-5 t c =
     let p = let_left _ c.requires.ordered _ _ _ (rw c.word-word.ensures at (sym c.tag.ensures ∙ c.in-5.is))
-    (rw (c.slot_of-in-5.ensures, c.word-word.ensures) at c.with-inner.ensures)
-    (rw (c.let_first-value.ensures, c.let_second-body.ensures, c.word-word.ensures) at c.rest_of_two-in-5.ensures.result_value,
-    rw (c.let_first-value.ensures, c.let_second-body.ensures, c.word-word.ensures) at c.rest_of_two-in-5.ensures.by_index) in
+    (rw (c.slot_of-in-5.ensures, c.word-word.ensures) at c.with-inner.ensures) (
+      rw (c.let_first-value.ensures, c.let_second-body.ensures, c.word-word.ensures) at c.rest_of_two-in-5.ensures.result_value,
+      rw (c.let_first-value.ensures, c.let_second-body.ensures, c.word-word.ensures) at c.rest_of_two-in-5.ensures.by_index,
+    ) in
     record { result_value = p.0; after = p.1 }
 
 pub rest_of-returns-else-closed_condition : goal.rest_of-returns-else-closed_condition
@@ -293,9 +300,10 @@ rest_of-returns-in-10 t c =
 
 pub rest_of-returns-in-11 : goal.rest_of-returns-in-11
 rest_of-returns-in-11 t c =
-    let p = synch_left _ c.requires.ordered _ _ _ (rw c.word-word.ensures at (sym c.tag.ensures ∙ c.in-11.is))
-    (rw (c.first-first.ensures, c.second-second.ensures, c.word-word.ensures) at c.rest_of_two-in-11.ensures.result_value,
-    rw (c.first-first.ensures, c.second-second.ensures, c.word-word.ensures) at c.rest_of_two-in-11.ensures.by_index) in
+    let p = synch_left _ c.requires.ordered _ _ _ (rw c.word-word.ensures at (sym c.tag.ensures ∙ c.in-11.is)) (
+      rw (c.first-first.ensures, c.second-second.ensures, c.word-word.ensures) at c.rest_of_two-in-11.ensures.result_value,
+      rw (c.first-first.ensures, c.second-second.ensures, c.word-word.ensures) at c.rest_of_two-in-11.ensures.by_index,
+    ) in
     record { result_value = p.0; after = p.1 }
 
 pub rest_of-returns-in-18 : goal.rest_of-returns-in-18

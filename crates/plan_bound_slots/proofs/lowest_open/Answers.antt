@@ -45,9 +45,10 @@ returns-then-not-closed_expression c = found _ _ _ c.loop-procedure-test.true
     c.loop-procedure.invariant.1
 
 pub loop-procedure-preserved : goal.loop-procedure-preserved
-loop-procedure-preserved c =
-    (search rules,
-    below_more _ _ c.loop-procedure.invariant.1 (seen (goal.at.loop-procedure-preserved c).After-closed_expression ∙ c.if-not-closed_expression.false-raw))
+loop-procedure-preserved c = (
+  search rules,
+  below_more _ _ c.loop-procedure.invariant.1 (seen (goal.at.loop-procedure-preserved c).After-closed_expression ∙ c.if-not-closed_expression.false-raw),
+)
 
 pub returns : goal.returns
 returns c = found_none (uses_unbound_slot c.args.plan.now) _ _ (search rules) (search rules) c.loop-procedure.invariant.1

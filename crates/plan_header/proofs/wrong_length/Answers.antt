@@ -25,9 +25,7 @@ overflow_add-result-2 c = omega (
   arith,
   procedures_lt c.args.plan.now,
   terms_lt c.args.plan.now,
-
 )
-
 
 pub returns : goal.returns
 unfolding wrong_length plan_length

@@ -10,13 +10,12 @@ pub loop-place-init : goal.loop-place-init
 loop-place-init c = (omega arith, c.requires.behind, put_none c.args.notes.now c.args.from c.args.area.now)
 
 pub loop-place-preserved : goal.loop-place-preserved
-loop-place-preserved c =
-    (
-      omega arith,
-      omega arith,
-      put_one_lem c.args.notes.now c.args.from c.args.area.now c.loop-place.place c.loop-place.area c.loop-place.invariant.2 c.loop-place.invariant.0
-          (omega (arith, c.loop-place.invariant.2.kept, c.requires.room)),
-    )
+loop-place-preserved c = (
+  omega arith,
+  omega arith,
+  put_one_lem c.args.notes.now c.args.from c.args.area.now c.loop-place.place c.loop-place.area c.loop-place.invariant.2 c.loop-place.invariant.0
+      (omega (arith, c.loop-place.invariant.2.kept, c.requires.room)),
+)
 
 pub shape_of-area : goal.shape_of-area
 shape_of-area c = c.loop-place.invariant.2.kept

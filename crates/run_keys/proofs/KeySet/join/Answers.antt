@@ -20,9 +20,7 @@ overflow_add-new-3 c = record {
         c.new_keys-3.ensures.1,
         c.new_keys-4.ensures.1,
       );
-
 }
-
 
 pub returns : goal.returns
 returns c =

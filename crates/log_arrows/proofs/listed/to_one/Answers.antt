@@ -1,0 +1,79 @@
+use Rattle.log_arrows.specs.Inner.Implied.{heard_in, is_needed, Added}
+use Rattle.log_arrows.proofs.Adding.{added_start, needed_some, added_room, added_needed, added_skipped, added_eight}
+use lib.ListN.{length, length-set}
+use native.Mathlib.Omega.{arith}
+use mathlib.Core.Path.{◌≡◌, refl, sym, ap, ◌∙◌}
+use mathlib.Core.Logic.{⊎_elim}
+use mathlib.Core.Bool.{true}
+use Prim.Native.Nat.{◌+◌, ◌-◌, ◌<◌, ◌≤◌}
+use borrow.Author.Rules.{rules}
+use Rattle.log_arrows.proofs.listed.to_one.Goals as goal
+use Rattle.log_arrows.proofs.listed.to_one.Goals.{Then-needed}
+
+is_needed_lem : (c : Then-needed) → is_needed (heard_in c.args.rows.now) c.args.own c.args.index c.loop-thread.thread ≡ true
+is_needed_lem c = sym c.needed.ensures ∙ c.if-needed.true
+
+some_record : (c : Then-needed) → 0 < heard_in c.args.rows.now c.args.index c.loop-thread.thread
+some_record c = needed_some _ _ _ _ (is_needed_lem c)
+
+room : (c : Then-needed) → c.loop-thread.held < c.args.count + 7
+room c = added_room _ _ _ _ _ _ _ _ _ _ c.loop-thread.invariant.3 (is_needed_lem c) c.requires.own_in (omega arith)
+
+pub loop-thread-init : goal.loop-thread-init
+loop-thread-init c = let s =
+    (goal.at.loop-thread-init c).Start in (
+      omega arith,
+      refl,
+      refl,
+      added_start (heard_in s.args.rows.now) s.args.own s.args.index s.args.count s.args.from.now
+          s.args.to.now,
+    )
+
+pub needed-requires : goal.needed-requires
+needed-requires c = record { earlier = c.requires.earlier; thread_in = omega arith }
+
+pub overflow_sub-from : goal.overflow_sub-from
+overflow_sub-from c = omega (arith, some_record c)
+
+pub offset_bounds-from-held : goal.offset_bounds-from-held
+offset_bounds-from-held c = omega (arith, room c, c.requires.room)
+
+pub bounds-from-held : goal.bounds-from-held
+bounds-from-held c = omega (arith, room c, c.requires.room)
+
+pub overflow_cast-to : goal.overflow_cast-to
+overflow_cast-to c = omega (arith, c.requires.index_in)
+
+pub offset_bounds-to-held : goal.offset_bounds-to-held
+offset_bounds-to-held c = omega (arith, room c, c.requires.room)
+
+pub bounds-to-held : goal.bounds-to-held
+bounds-to-held c = omega (arith, room c, c.requires.room)
+
+pub overflow_add-held : goal.overflow_add-held
+overflow_add-held c = omega (arith, room c, c.requires.room)
+
+pub loop-thread-preserved : goal.loop-thread-preserved
+loop-thread-preserved c =
+    let l = c.loop-thread in
+    ⊎_elim
+    (λ w.
+    let t : tie.Then1 invariant-loop decreases-loop = record { before = (goal.at.loop-thread-preserved c).After-needed; if1 = w.0 } in
+    let m = room t in
+    let f = c.requires.room.from_room in
+    let g = c.requires.room.to_room in (
+      omega (arith, c.loop-thread-test.true),
+      ap length w.1 ∙ length-set l.from l.held _ ∙ l.invariant.1,
+      ap length w.2 ∙ length-set l.to l.held _ ∙ l.invariant.2,
+      rw (w.1, w.2, w.3) (added_needed _ _ _ _ _ _ _ _ _ _ l.invariant.3 (is_needed_lem t) (omega (arith, m, f, l.invariant.1)) (omega (arith, m, g, l.invariant.2))),
+    ))
+    (λ w. (
+      omega (arith, c.loop-thread-test.true),
+      ap length w.1 ∙ l.invariant.1,
+      ap length w.2 ∙ l.invariant.2,
+      rw (w.1, w.2, w.3) (added_skipped _ _ _ _ _ _ _ _ _ _ l.invariant.3 (sym c.needed.ensures ∙ w.0.false)),
+    ))
+    c.if-needed.branch-raw
+
+pub returns : goal.returns
+returns c = added_eight _ _ _ _ _ _ _ _ _ _ (omega arith) c.loop-thread.invariant.3
