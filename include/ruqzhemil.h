@@ -29,14 +29,15 @@
  *   }
  *
  * WHAT IS PROMISED: for all bytes, however malformed, each function returns the number that crates/abi_convention and crates/abi_numbers define, with the
- * bytes of specs/Bytes in crates/abi_thread_bytes, crates/abi_outcome and crates/abi_preview; the proofs of crates/ruqzhemil show it. Functions keep nothing
- * between calls, have no global state and allocate nothing, so threads may call them at the same time on areas of their own.
+ * bytes of specs/Bytes in crates/abi_thread_bytes, crates/abi_outcome and crates/abi_preview; the proofs of crates/ruqzhemil and crates/ruqzhemil_c show it.
+ * Functions keep nothing between calls, have no global state and allocate nothing, so threads may call them at the same time on areas of their own.
  *
  * WHAT IS ASKED of the caller: each pointer leads to as many bytes as its length says (out of play to RUQZHEMIL_OUT_BYTES, of preview to
  * RUQZHEMIL_PREVIEW_BYTES); a length of 0 may go with any pointer, null too; what a function writes (log, area, out) overlaps none of its other bytes, and
- * while a call runs no other thread writes to its bytes; and there is stack (bench/run.sh measures it): check needs up to 80 KB, play up to 128 KB, judge up
- * to 64 KB, preview and charge up to 144 KB, witness up to 144 KB (each of the three has a log of 12,288 bytes in it), canonical up to 144 KB, show, bound,
- * first_interleaving and next_interleaving up to 96 KB, read up to 224 KB, comtrade up to 4 KB.
+ * while a call runs no other thread writes to its bytes; and there is stack (bench/run.sh measures it, and measured what follows of archives that the kit
+ * before rattle-kit-13f built): check needs up to 80 KB, play up to 128 KB, judge up to 64 KB, preview and charge up to 144 KB, witness up to 144 KB (each of
+ * the three has a log of 12,288 bytes in it), canonical up to 144 KB, show, bound, first_interleaving and next_interleaving up to 96 KB, read up to 224 KB,
+ * comtrade up to 4 KB.
  *
  * WHAT IT NEEDS: x86-64, the System V calling convention (Linux), and from outside the archive memcpy and memset alone.
  *

@@ -5,10 +5,10 @@
   compare.py PROGRAM - < CASES
 
 ORACLE is the folder of the second interpreter, CASES its JSON lines, made before; the list names the requests of document 02 that count as landed;
-PROGRAM is the built printing program (`rt check shotlist` makes target/bin/shotlist). Every case that plays a schedule on a plan is written as the program's
-standard input, and what it prints is compared with the text that the case asks for. Cases that refuse the log area (number 10) are left out, since the
-program lends an area that is always long enough. Every tenth input is also cut short within its plan, which is refusal 1, and every tenth run is also played
-with more picks than a schedule may have, which is refusal 8.
+PROGRAM is the built printing program (`rt run < stdin` in crates/shotlist makes crates/shotlist/out/shotlist). Every case that plays a schedule on a plan
+is written as the program's standard input, and what it prints is compared with the text that the case asks for. Cases that refuse the log area (number 10)
+are left out, since the program lends an area that is always long enough. Every tenth input is also cut short within its plan, which is refusal 1, and every
+tenth run is also played with more picks than a schedule may have, which is refusal 8.
 """
 
 import subprocess

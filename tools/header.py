@@ -40,7 +40,7 @@ def sentences():
 def main():
     with open(ROOT + "/crates/" + LISTED) as stored:
         if stored.read() != listing():
-            sys.exit("include/ruqzhemil.h has other numbers than the stored cases were made with: run tools/vectors.py, then rt check test_vectors")
+            sys.exit("include/ruqzhemil.h has other numbers than the stored cases were made with: run tools/vectors.py, then rt ci test_vectors")
     with open(ROOT + "/crates/text_shot_list/specs/Printed.antt") as printed:
         if "(%d ≤ length before →" % numbers()["MOST_TEXT_BYTES"] not in printed.read():
             sys.exit("include/ruqzhemil.h has another size of a text's area than crates/text_shot_list/specs/Printed.antt")

@@ -46,7 +46,7 @@ pub record Totalled (b : List ℕ) (n : ℕ) : Type 0 where
   pub acyclic : cyclic (program_of b) ≡ false
   pub whileless : has_while b ≡ false
   pub most : n ≤ 65535
-  pub total_of_lem : n ≡ total (program_of b)
+  pub total_of : n ≡ total (program_of b)
 
 pub totalled : (b : List ℕ) (n : ℕ) → bounded b ≡ value n → Totalled b n
 unfolding bounded answer_by over_most
@@ -64,7 +64,7 @@ totalled b n h = go (bound_refusal b) refl h
           acyclic = (head_pass p).right 0 (omega arith);
           whileless = (head_pass (tail_pass p)).right 0 (omega arith);
           most = along (λ (x : ℕ). x ≤ 65535) t (ltb-false 65535 (total (program_of b)) o);
-          total_of_lem = sym t;
+          total_of = sym t;
         }
 
 -- ---- "No schedule makes more moves, forked threads included."

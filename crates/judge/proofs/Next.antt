@@ -14,7 +14,7 @@ use Rattle.format.specs.Version.{Version}
 use Rattle.log_records.specs.Record.{Record, is_plain}
 use Rattle.log_records.specs.Packed.{kind_at, record_at, log_of}
 use Rattle.log_order.specs.Accesses.{is_write}
-use Rattle.log_order.proofs.Ports.{Port, of_thread, of_monitor, of_volatile, of_accesses}
+use Rattle.log_order.proofs.Ports.{Port, of_thread, of_monitor, of_volatile, of_accesses, of_writes}
 use Rattle.log_conflicts.specs.Conflicts.{Conflicting}
 use Rattle.log_conflicts.specs.Judge.{Names}
 use Rattle.log_conflicts.proofs.FirstConflict.{conflicting↔}
@@ -40,10 +40,16 @@ use Rattle.judge.proofs.Here as here
 place_passing : {o f : ℕ} (p : Port) → AtPlace o f p → Passing p
 place_passing (of_monitor o) (monitor h) = tt
 place_passing (of_volatile o f) (volatile h) = tt
+place_passing (of_thread _) h = elim h [ ]
+place_passing (of_accesses _ _) h = elim h [ ]
+place_passing (of_writes _ _) h = elim h [ ]
 
 not_thread_lem : {o f : ℕ} (p : Port) → AtPlace o f p → (t : ℕ) → p ≡ of_thread t → ⊥
 not_thread_lem (of_monitor o) (monitor h) t e = let z : ◌≡◌ {A = ℕ} 0 1 = cc in omega arith
 not_thread_lem (of_volatile o f) (volatile h) t e = let z : ◌≡◌ {A = ℕ} 0 1 = cc in omega arith
+not_thread_lem (of_thread _) h t e = elim h [ ]
+not_thread_lem (of_accesses _ _) h t e = elim h [ ]
+not_thread_lem (of_writes _ _) h t e = elim h [ ]
 
 module _ {v : Version} {b : List ℕ} {places i : ℕ} {N : List ℕ} {given : ℕ} {rows : List Row} (W : Here v b places i N given rows) where
   abbrev r : Record

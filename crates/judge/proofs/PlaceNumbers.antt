@@ -123,7 +123,7 @@ pub record Placed (N : List ℕ) (given p n : ℕ) : Type 0 where
 pub given_most : {N : List ℕ} {given : ℕ} → Places N given → given ≤ 1024
 given_most P = omega (arith, P.left)
 
-pub placed : {N N' : List ℕ} {given given' p n most : ℕ} → Places N given → p < 1024 → Numbered N given p most N' given' n → (n ≡ 0 → ⊥)
+pub placed : {N : List ℕ} {given p : ℕ} {N' : List ℕ} {given' n most : ℕ} → Places N given → p < 1024 → Numbered N given p most N' given' n → (n ≡ 0 → ⊥)
     → Placed N' given' p n
 placed P h (known k) m = record { places = P; number = refl; some = k }
 placed {N = N} {given = given} {p = p} P h (next k l) m =

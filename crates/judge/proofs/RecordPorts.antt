@@ -242,11 +242,20 @@ module _ {N : List ℕ} {given n : ℕ} (o f : ℕ) (P : Placed N given (o * 32 
   pub place_row_lem : (p : Port) → AtPlace o f p → row_of N p ≡ place_row n
   place_row_lem (of_monitor o') (monitor h) = ap place_row (ap (λ (m : ℕ). get_or N (o * 32 + m) 0) (sym h) ∙ P.number)
   place_row_lem (of_volatile o' f') (volatile h) = ap place_row P.number
+  place_row_lem (of_thread _) h = elim h [ ]
+  place_row_lem (of_accesses _ _) h = elim h [ ]
+  place_row_lem (of_writes _ _) h = elim h [ ]
 
   pub place_valid : o < 32 → f < 32 → (p : Port) → AtPlace o f p → Valid p
   place_valid a b (of_monitor o') (monitor h) = a
   place_valid a b (of_volatile o' f') (volatile h) = (a, b, h)
+  place_valid a b (of_thread _) h = elim h [ ]
+  place_valid a b (of_accesses _ _) h = elim h [ ]
+  place_valid a b (of_writes _ _) h = elim h [ ]
 
   pub place_has : (p : Port) → AtPlace o f p → HasRow N p
   place_has (of_monitor o') (monitor h) = subst (λ (m : ℕ). 0 < get_or N (o * 32 + m) 0) h numbered
   place_has (of_volatile o' f') (volatile h) = numbered
+  place_has (of_thread _) h = elim h [ ]
+  place_has (of_accesses _ _) h = elim h [ ]
+  place_has (of_writes _ _) h = elim h [ ]

@@ -121,7 +121,7 @@ module _ (v : Version) (H : List Record) (eight : Eight H) (N : List ℕ) (given
   shows_numbered q w = shown_same v eight q w (clocks N rows q) (clocks after rows q) (row_moved q) (S q w)
 
 -- the same, whether it had one or not
-pub shows_placed : (v : Version) (H : List Record) → Eight H → {N N' : List ℕ} {given given' p n most : ℕ} → Places N given → p < 1024 → (rows : List Row)
+pub shows_placed : (v : Version) (H : List Record) → Eight H → {N : List ℕ} {given p : ℕ} {N' : List ℕ} {given' n most : ℕ} → Places N given → p < 1024 → (rows : List Row)
     → Blank given rows → Shows v H N rows → Numbered N given p most N' given' n → Shows v H N' rows
 shows_placed v H ei P h rows B S (known k) = S
 shows_placed v H ei {N = N} {given = given} {p = p} P h rows B S (next k l) = shows_numbered v H ei N given p P h k rows B S

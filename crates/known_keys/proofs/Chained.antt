@@ -51,31 +51,31 @@ module _ (v : Version) (L : List Record) (i : ℕ) where
 
   -- to any `new` record of one thread
   pub chained_thread : (t : ℕ) (r : Record) → NewOf t r → WouldChain v L i r ↔ Reach v i (reverse L) (of_thread t)
-  chained_thread t r n = subst (λ (u : ℕ). WouldChain v L i r ↔ Reach v i (reverse L) (of_thread u)) n.of_thread_lem (chained_reach r n.is_new_lem)
+  chained_thread t r n = subst (λ (u : ℕ). WouldChain v L i r ↔ Reach v i (reverse L) (of_thread u)) n.of_thread (chained_reach r n.is_new)
 
 -- the theory's words for the definition's
 pub would_reach↔ : (v : Version) (L : List Record) (t : ℕ) (r : Record) → NewOf t r → (k : ℕ) → WouldReach v L t k ↔ KeyOfChained v L r k
 would_reach↔ v L t r n k = (there, back)
   where
     same : (i : ℕ) → WouldChain v L i (entry new t 0 0 0) ↔ WouldChain v L i r
-    same i = Iff.trans (chained_thread v L i t (entry new t 0 0 0) (record { is_new_lem = refl; of_thread_lem = refl })) (Iff.symm (chained_thread v L i t r n))
+    same i = Iff.trans (chained_thread v L i t (entry new t 0 0 0) (record { is_new = refl; of_thread = refl })) (Iff.symm (chained_thread v L i t r n))
 
     there : WouldReach v L t k → KeyOfChained v L r k
     there d =
         let m = d.made_at in
         record {
           index = d.index;
-          plain_write = record { write_record = m.write_record; at_i = m.at_i; is_write_lem = m.is_write_lem };
-          its_key = m.number ∙ sym (key_number L d.index m.write_record m.at_i m.is_write_lem);
+          plain_write = record { write_record = m.write_record; at_i = m.at_i; is_write = m.is_write };
+          its_key = m.number ∙ sym (key_number L d.index m.write_record m.at_i m.is_write);
           chained = (same d.index).0 d.chain;
         }
 
     back : KeyOfChained v L r k → WouldReach v L t k
     back d =
         let w = d.plain_write in
-        let number = d.its_key ∙ key_number L d.index w.write_record w.at_i w.is_write_lem in
+        let number = d.its_key ∙ key_number L d.index w.write_record w.at_i w.is_write in
         record {
           index = d.index;
-          made_at = record { write_record = w.write_record; at_i = w.at_i; is_write_lem = w.is_write_lem; number = number };
+          made_at = record { write_record = w.write_record; at_i = w.at_i; is_write = w.is_write; number = number };
           chain = (same d.index).1 d.chained;
         }

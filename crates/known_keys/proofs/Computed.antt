@@ -68,7 +68,7 @@ module _ (v : Version) (L : List Record) (t : ℕ) where
   comes→ i (some w) e h =
       let c = turn L i w in
       let d = and_yes (same_kind w.kind write) (leb c (clock v (reverse L) (of_thread t) w.thread)) h in (
-        record { write_record = w; at_i = e; is_write_lem = same_kind→ w.kind write d.0 },
+        record { write_record = w; at_i = e; is_write = same_kind→ w.kind write d.0 },
         clock→reach v (of_thread t) (nth_of L i w e) (leb→le c (clock v (reverse L) (of_thread t) w.thread) d.1),
       )
 
@@ -78,7 +78,7 @@ module _ (v : Version) (L : List Record) (t : ℕ) where
       let q : z.write_record ≡ w = (let k : some z.write_record ≡ some w = sym z.at_i ∙ e in cc) in
       let c = turn L i w in
       yes_and (same_kind w.kind write) (leb c (clock v (reverse L) (of_thread t) w.thread))
-      (same_kind← w.kind write (subst (λ (r : Record). r.kind ≡ write) q z.is_write_lem))
+      (same_kind← w.kind write (subst (λ (r : Record). r.kind ≡ write) q z.is_write))
       (le→leb c (clock v (reverse L) (of_thread t) w.thread) (reach→clock v (nth_of L i w e) x))
 
   -- ---- the first n records

@@ -16,8 +16,8 @@ use Rattle.known_keys.specs.WriteKeys.{PlainWrite, key_at}
 
 -- "a `new` record of this thread", thread t, whatever object it makes
 pub record NewOf (t : ℕ) (r : Record) : Type 0 where
-  pub is_new_lem : r.kind ≡ new
-  pub of_thread_lem : r.thread ≡ t
+  pub is_new : r.kind ≡ new
+  pub of_thread : r.thread ≡ t
 
 -- record i of the log L "would have a chain to [r], were one put at the log's end"
 abbrev pub WouldChain : Version → List Record → ℕ → Record → Type 0

@@ -7,7 +7,7 @@ use Rattle.log_order.specs.Chains.{At}
 pub record PlainWrite (L : List Record) (i : ℕ) : Type 0 where
   pub write_record : Record
   pub at_i : At L i write_record
-  pub is_write_lem : write_record.kind ≡ write
+  pub is_write : write_record.kind ≡ write
 
 -- how many plain writes a log has
 abbrev pub plain_writes : List Record → ℕ

@@ -177,7 +177,7 @@ module _ (v : Version) (L : List Record) (h : ℕ → ℕ → ℕ) (t : ℕ → 
           let x : Heard v L j d.thread i
           = start j i b (record { thread = d.thread; below = omega (arith, d.below); needed = d.needed; from_is = d.from_is; to_is = refl }) in
           let y : Heard v L j n i' = start j i' b (record { thread = n; below = omega arith; needed = e.0; from_is = e.1; to_is = refl }) in
-          by_thread (sym d.to_is ∙ e.2) x.at y.at (omega (arith, x.of_thread_lem, y.of_thread_lem, d.below))
+          by_thread (sym d.to_is ∙ e.2) x.at y.at (omega (arith, x.of_thread, y.of_thread, d.below))
 
   ordered_below : (n : ℕ) → n ≤ length L → Ordered L (arrows_below h t n)
   unfolding arrows_below

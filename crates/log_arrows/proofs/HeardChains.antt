@@ -53,17 +53,17 @@ module _ (v : Version) (L : List Record) (j : ℕ) (r : Record) (here : At L j r
       top i d =
           let c : N.Chain v (r ∷ H) i (length H) = subst (N.Chain v (r ∷ H) i) (sym size) ((chain_cut v L j r here i).0 d.chain) in
           let b : i < j = chain_before d.chain in
-          subst (λ (t : ℕ). i < heard v H r t) d.of_thread_lem (chain→heard v r H ((at_past v L j r here i d.by b).0 d.at) c)
+          subst (λ (t : ℕ). i < heard v H r t) d.of_thread (chain→heard v r H ((at_past v L j r here i d.by b).0 d.at) c)
 
       is : (m : ℕ) → heard v H r u ≡ suc m → Heard v L j u m
       is m e =
           let d = heard_of_lem v r H u m e in
           let b : m < j = subst (λ (n : ℕ). m < n) size (N.at_below d.at) in
-          let h : suc m ≤ heard v H r d.by.thread = subst (λ (t : ℕ). suc m ≤ heard v H r t) (sym d.of_thread_lem) (omega arith) in
+          let h : suc m ≤ heard v H r d.by.thread = subst (λ (t : ℕ). suc m ≤ heard v H r t) (sym d.of_thread) (omega arith) in
           record {
             by = d.by;
             at = (at_past v L j r here m d.by b).1 d.at;
-            of_thread_lem = d.of_thread_lem;
+            of_thread = d.of_thread;
             chain = (chain_cut v L j r here m).1 (subst (N.Chain v (r ∷ H) m) size (heard→chain v r H d.at h));
           }
 

@@ -145,10 +145,10 @@ mark→reach v {i = i} {w = w} p (back {H = H} {s = s} a) h =
 pub record OfThread (H : List Record) (u m : ℕ) : Type 0 where
   pub by : Record
   pub at : At H m by
-  pub of_thread_lem : by.thread ≡ u
+  pub of_thread : by.thread ≡ u
 
 older : {H : List Record} {u m : ℕ} (s : Record) → OfThread H u m → OfThread (s ∷ H) u m
-older s d = record { by = d.by; at = back d.at; of_thread_lem = d.of_thread_lem }
+older s d = record { by = d.by; at = back d.at; of_thread = d.of_thread }
 
 data Made (m C D n : ℕ) (c : Bool) : Type 0 where
   before : C ≡ suc m → Made m C D n c
@@ -185,7 +185,7 @@ mark_of v (r ∷ H) p u m e =
   where
     go : Made m (mark v H p u) (heard v H r u) (length H) (eqb r.thread u) → ((q : Port) → mark v H q u ≡ suc m → OfThread H u m) → OfThread (r ∷ H) u m
     go (before k) of = older r (of p k)
-    go (itself c k) of = record { by = r; at = here k; of_thread_lem = eqb→eq r.thread u c }
+    go (itself c k) of = record { by = r; at = here k; of_thread = eqb→eq r.thread u c }
     go (passed_on_lem k) of = older r (heard_by v r H u m of k)
 
 pub heard_of_lem : (v : Version) (r : Record) (H : List Record) (u m : ℕ) → heard v H r u ≡ suc m → OfThread H u m

@@ -98,11 +98,11 @@ module _ (v : Version) (L : List Record) (h : ℕ → ℕ → ℕ) (K : Known v 
   -- a record that a record up to the newest of its thread has heard of, that has heard too
   hears : (u i k w m : ℕ) (s : Record) → u < 8 → Heard v L k u i → At L k s → s.thread ≡ w → Heard v L j w m → k ≤ m → i < h m u
   hears u i k w m s b a at of d c =
-      (K.newest m (at_within L m d.by d.at) u b).none_newer i (record { by = a.by; at = a.at; of_thread_lem = a.of_thread_lem; chain = go (ℕ_discrete k m) })
+      (K.newest m (at_within L m d.by d.at) u b).none_newer i (record { by = a.by; at = a.at; of_thread = a.of_thread; chain = go (ℕ_discrete k m) })
     where
       go : Dec (k ≡ m) → Chain v L i m
       go (yes e) = subst (Chain v L i) e a.chain
-      go (no n) = chain_on a.chain (thread_chain v L k m s d.by at d.at (of ∙ sym d.of_thread_lem) (omega arith))
+      go (no n) = chain_on a.chain (thread_chain v L k m s d.by at d.at (of ∙ sym d.of_thread) (omega arith))
 
   pub passes→needed : (u m : ℕ) → u < 8 → Passes h r.thread j u m → Needed v L m j
   passes→needed u m b P = record { arrow = record { linked = linked; two_threads = apart }; none_between = between }
@@ -123,7 +123,7 @@ module _ (v : Version) (L : List Record) (h : ℕ → ℕ → ℕ) (K : Known v 
           few = K.eight k s.0 s.1
 
           below : k < h j w
-          below = (K.newest j within w few).none_newer k (record { by = s.0; at = s.1; of_thread_lem = refl; chain = y })
+          below = (K.newest j within w few).none_newer k (record { by = s.0; at = s.1; of_thread = refl; chain = y })
 
           go : Dec (w ≡ u) → ⊥
           go (yes e) =
@@ -133,7 +133,7 @@ module _ (v : Version) (L : List Record) (h : ℕ → ℕ → ℕ) (K : Known v 
           go (no n) =
               let top : Heard v L j w (h j w - 1) = (K.newest j within w few).is_heard (h j w - 1) (omega (arith, below)) in
               let f : m < h (h j w - 1) u
-              = hears u m k w (h j w - 1) s.0 b (record { by = d.by; at = d.at; of_thread_lem = d.of_thread_lem; chain = x }) s.1 refl top
+              = hears u m k w (h j w - 1) s.0 b (record { by = d.by; at = d.at; of_thread = d.of_thread; chain = x }) s.1 refl top
               (omega (arith, below)) in
               P.not_implied w few (record { another = n; some = omega (arith, below); has = omega (arith, P.newest) })
 
@@ -143,7 +143,7 @@ module _ (v : Version) (L : List Record) (h : ℕ → ℕ → ℕ) (K : Known v 
       apart : linked.earlier.thread ≡ linked.later.thread → ⊥
       apart e =
           P.two_threads
-          (sym d.of_thread_lem ∙ ap (λ (x : Record). x.thread) (at_once L m d.by linked.earlier d.at linked.at_i) ∙ e
+          (sym d.of_thread ∙ ap (λ (x : Record). x.thread) (at_once L m d.by linked.earlier d.at linked.at_i) ∙ e
           ∙ ap (λ (x : Record). x.thread) (at_once L j linked.later r linked.at_j here))
 
   pub needed→passes : (i : ℕ) (w : Record) → At L i w → Needed v L i j → Passes h r.thread j w.thread i
@@ -165,7 +165,7 @@ module _ (v : Version) (L : List Record) (h : ℕ → ℕ → ℕ) (K : Known v 
           ∙ ap (λ (x : Record). x.thread) (at_once L j r l.later here l.at_j))
 
       below : i < h j u
-      below = (K.newest j within u few).none_newer i (record { by = w; at = at; of_thread_lem = refl; chain = one l })
+      below = (K.newest j within u few).none_newer i (record { by = w; at = at; of_thread = refl; chain = one l })
 
       -- the newest of a thread that has a record from i on, if i has no chain through it, is i
       only : (k m : ℕ) → Heard v L k u m → i ≤ m → (Chain v L i m → ⊥) → m ≡ i
@@ -173,7 +173,7 @@ module _ (v : Version) (L : List Record) (h : ℕ → ℕ → ℕ) (K : Known v 
         where
           go : Dec (m ≡ i) → m ≡ i
           go (yes e) = e
-          go (no x) = absurd (n (thread_chain v L i m w d.by at d.at (sym d.of_thread_lem) (omega arith)))
+          go (no x) = absurd (n (thread_chain v L i m w d.by at d.at (sym d.of_thread) (omega arith)))
 
       newest : h j u ≡ suc i
       newest =
@@ -197,4 +197,4 @@ module _ (v : Version) (L : List Record) (h : ℕ → ℕ → ℕ) (K : Known v 
             where
               go : Dec (h m u - 1 ≡ i) → Chain v L i m
               go (yes e) = subst (λ (k : ℕ). Chain v L k m) e q.chain
-              go (no n) = chain_on (thread_chain v L i (h m u - 1) w q.by at q.at (sym q.of_thread_lem) (omega (arith, y.has, below))) q.chain
+              go (no n) = chain_on (thread_chain v L i (h m u - 1) w q.by at q.at (sym q.of_thread) (omega (arith, y.has, below))) q.chain

@@ -34,7 +34,7 @@ module _ (v : Version) (L : List Record) (h : ℕ → ℕ → ℕ) (K : Known v 
     m = h j u - 1
 
     below : i < h j u
-    below = (K.newest j (at_within L j r at_j) u few).none_newer i (record { by = w; at = at_i; of_thread_lem = refl; chain = c })
+    below = (K.newest j (at_within L j r at_j) u few).none_newer i (record { by = w; at = at_i; of_thread = refl; chain = c })
 
     newest : h j u ≡ suc m
     newest = omega (arith, below)
@@ -61,7 +61,7 @@ module _ (v : Version) (L : List Record) (h : ℕ → ℕ → ℕ) (K : Known v 
             go : Dec (h k u - 1 ≡ m) → Chain v L m k
             go (yes e) = subst (λ (z : ℕ). Chain v L z k) e q.chain
             go (no e) =
-                chain_on (thread_chain v L m (h k u - 1) top.by q.by top.at q.at (top.of_thread_lem ∙ sym q.of_thread_lem)
+                chain_on (thread_chain v L m (h k u - 1) top.by q.by top.at q.at (top.of_thread ∙ sym q.of_thread)
                 (omega (arith, y.has, below))) q.chain
 
     last : Shown v L m j
@@ -76,7 +76,7 @@ module _ (v : Version) (L : List Record) (h : ℕ → ℕ → ℕ) (K : Known v 
       where
         go : Dec (i ≡ m) → Shown v L i j
         go (yes e) = subst (λ (z : ℕ). Shown v L z j) (sym e) last
-        go (no e) = on (line at_i top.at (sym top.of_thread_lem) (omega (arith, below))) last
+        go (no e) = on (line at_i top.at (sym top.of_thread) (omega (arith, below))) last
 
   chain→shown : (n i j : ℕ) → j ≤ i + n → Chain v L i j → Shown v L i j
   chain→shown zero i j b c = absurd (omega (arith, chain_before c))

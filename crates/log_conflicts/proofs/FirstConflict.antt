@@ -179,7 +179,7 @@ answers_once (judges e m) (judges g n) = ap named (names_once m n)
 pub unordered→conflicting : {v : Version} {L : List Record} {j : ℕ} → Unordered v L j → Conflicting v L j
 unordered→conflicting u =
     let w = u.is_last.writes in
-    let writes : T (is_write u.is_last.write_record.kind) = rw w.is_write_lem tt in
+    let writes : T (is_write u.is_last.write_record.kind) = rw w.is_write tt in
     record {
       access = u.access;
       at_j = u.at_j;

@@ -44,7 +44,7 @@ module _ {b : List ℕ} {j i : ℕ} {a c : Columns} (A : ReadAt b j a) (R : Read
       go (yes e) q =
           let x : some w ≡ some (record_at b i) = sym there ∙ ap (get_elem? (log_of b)) e ∙ here in
           let y : w ≡ record_at b i = cc in
-          let k : eqb c.kind 3 ≡ true = write_here R ∙ ap (λ (z : Record). is_write z.kind) (sym y) ∙ ap is_write writes.is_write_lem in
+          let k : eqb c.kind 3 ≡ true = write_here R ∙ ap (λ (z : Record). is_write z.kind) (sym y) ∙ ap is_write writes.is_write in
           let o : eqb c.object a.object ≡ true =
           eq-eqb c.object a.object (R.object_is ∙ ap (λ (z : Record). z.object) (sym y) ∙ writes.same_object ∙ sym A.object_is) in
           let f : eqb c.field a.field ≡ true =
@@ -60,7 +60,7 @@ module _ {b : List ℕ} {j i : ℕ} {a c : Columns} (A : ReadAt b j a) (R : Read
         write_record = record_at b i;
         at_i = here;
         writes = record {
-          is_write_lem = write→ (record_at b i).kind (sym (write_here R) ∙ e.0);
+          is_write = write→ (record_at b i).kind (sym (write_here R) ∙ e.0);
           same_object = sym R.object_is ∙ eqb-true c.object a.object e.1 ∙ A.object_is;
           same_field = sym R.field_is ∙ eqb-true c.field a.field d.1 ∙ A.field_is;
         };

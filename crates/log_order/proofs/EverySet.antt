@@ -26,7 +26,7 @@ use Rattle.log_order.proofs.Turned.{at→, chain→, chain←}
 pub record KeyAt (L : List Record) (i k : ℕ) : Type 0 where
   pub write_record : Record
   pub at_i : At L i write_record
-  pub is_write_lem : write_record.kind ≡ write
+  pub is_write : write_record.kind ≡ write
   pub number : k ≡ suc (write_count (take i L))
 
 -- key k is that of a plain write that would have a chain to a `new` record of thread t, were one put at the log's end
@@ -55,15 +55,15 @@ key← L i k y =
     let b : i < length L = at_within L i y.write_record y.at_i in
     subst (λ (H : List Record). W.KeyAt H i k) (sym (turned_at L i y.write_record y.at_i))
     (key_append (reverse (drop (suc i) L))
-    (makes y.is_write_lem (sym (past_length L i (omega arith))) (y.number ∙ ap suc (sym (count_turned (take i L) [] ∙ omega arith)))))
+    (makes y.is_write (sym (past_length L i (omega arith))) (y.number ∙ ap suc (sym (count_turned (take i L) [] ∙ omega arith)))))
 
 pub key→ : (L : List Record) (i k : ℕ) → W.KeyAt (reverse L) i k → KeyAt L i k
 key→ L i k y = record {
   write_record = d.0;
   at_i = at;
-  is_write_lem = d.2;
+  is_write = d.2;
   number =
-      key_number y (key← L i (suc (write_count (take i L))) (record { write_record = d.0; at_i = at; is_write_lem = d.2; number = refl }));
+      key_number y (key← L i (suc (write_count (take i L))) (record { write_record = d.0; at_i = at; is_write = d.2; number = refl }));
 }
   where
     d : (r : Record) × N.At (reverse L) i r × (r.kind ≡ write)

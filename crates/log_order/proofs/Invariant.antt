@@ -22,7 +22,7 @@ invariant_step v r H s I pt nd =
       volatiles_know = λ o f k e. volatile_step v r.kind r.thread r.object r.field r.value s I pt o f k e;
       free_know = λ o k₀ k y. free_step v r.kind r.thread r.object r.field r.value s I pt nd o k₀ k y;
       held_know = λ o k em. held_step v r.kind r.thread r.object r.field r.value s I pt nd o k em;
-      next_key_lem = next_step v r.kind r.thread r.object r.field r.value s I;
+      next_key = next_step v r.kind r.thread r.object r.field r.value s I;
     }
 
 invariant_start : (v : Version) → Invariant v [] start
@@ -34,7 +34,7 @@ invariant_start v =
       volatiles_know = λ o f k e. (λ y. base ((only_zero↔ k).0 y), λ y. (only_zero↔ k).1 (known_base y));
       free_know = λ o k₀ k z. (λ y. base ((only_zero↔ k).0 y), λ y. (only_zero↔ k).1 (known_base y));
       held_know = λ o k em. absurd (em 0 ((only_zero↔ 0).1 refl));
-      next_key_lem = refl;
+      next_key = refl;
     }
   where
     known_base : {v : Version} {k : ℕ} {p : Port} → Known v k [] p → k ≡ 0

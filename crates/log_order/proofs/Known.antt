@@ -29,7 +29,7 @@ pub record Invariant (v : Version) (H : List Record) (s : KeyState) : Type 0 whe
   pub volatiles_know : (o f k : ℕ) → v ≡ v1 → T (s.volatiles o f k) ↔ Known v k H (of_volatile o f)
   pub free_know : (o k₀ k : ℕ) → T (s.monitors o k₀) → T (s.monitors o k) ↔ Known v k H (of_monitor o)
   pub held_know : (o k : ℕ) → ((m : ℕ) → T (s.monitors o m) → ⊥) → T (s.present (s.owner o)) × (Known v k H (of_monitor o) → T (s.knows (s.owner o) k))
-  pub next_key_lem : s.next ≡ suc (write_count H)
+  pub next_key : s.next ≡ suc (write_count H)
 
 -- ---- one record more
 

@@ -21,19 +21,19 @@ use Rattle.log_order.proofs.KnownThreads.{own, stays, grows}
 -- the key counter
 pub next_step : (v : Version) (κ : Kind) (t o f x : ℕ) {H : List Record} (s : KeyState) → Invariant v H s
     → (act v κ t o f s).next ≡ suc (write_count (entry κ t o f x ∷ H))
-next_step v new t o f x s I = I.next_key_lem
-next_step v read t o f x s I = I.next_key_lem
-next_step v write t o f x s I = ap suc I.next_key_lem
-next_step v0 readv t o f x s I = I.next_key_lem
-next_step v1 readv t o f x s I = I.next_key_lem
-next_step v0 writev t o f x s I = I.next_key_lem
-next_step v1 writev t o f x s I = I.next_key_lem
-next_step v acquire t o f x s I = I.next_key_lem
-next_step v release t o f x s I = I.next_key_lem
-next_step v fork t o f x s I = I.next_key_lem
-next_step v join t o f x s I = I.next_key_lem
-next_step v lacks_read t o f x s I = I.next_key_lem
-next_step v lacks_write t o f x s I = I.next_key_lem
+next_step v new t o f x s I = I.next_key
+next_step v read t o f x s I = I.next_key
+next_step v write t o f x s I = ap suc I.next_key
+next_step v0 readv t o f x s I = I.next_key
+next_step v1 readv t o f x s I = I.next_key
+next_step v0 writev t o f x s I = I.next_key
+next_step v1 writev t o f x s I = I.next_key
+next_step v acquire t o f x s I = I.next_key
+next_step v release t o f x s I = I.next_key
+next_step v fork t o f x s I = I.next_key
+next_step v join t o f x s I = I.next_key
+next_step v lacks_read t o f x s I = I.next_key
+next_step v lacks_write t o f x s I = I.next_key
 
 v0≢v1 : v0 ≡ v1 → ⊥
 v0≢v1 e = true≢false cc

@@ -32,7 +32,7 @@ pub own : (v : Version) (κ : Kind) (t o f : ℕ) {H : List Record} (s : KeyStat
 own v new t o f s I pt nd k = nothing_more_lem
 own v read t o f s I pt nd k = nothing_more_lem
 own v write t o f s I pt nd k =
-    Iff.trans (put_same↔ s.knows t (learn s.next (s.knows t)) k) (Iff.trans (learn↔ s.next (s.knows t) k) (or_iff (rw I.next_key_lem Iff.rfl)))
+    Iff.trans (put_same↔ s.knows t (learn s.next (s.knows t)) k) (Iff.trans (learn↔ s.next (s.knows t) k) (or_iff (rw I.next_key Iff.rfl)))
 own v0 readv t o f s I pt nd k = nothing_more_lem
 own v1 readv t o f s I pt nd k =
     Iff.trans (put_same↔ s.knows t (union (s.knows t) (s.volatiles o f)) k)

@@ -24,7 +24,7 @@ other r H o f key n (last i d y) = last i (last_more r H o f i n d) (older y)
 
 quiet : (κ : Kind) (t o f x : ℕ) (H : List Record) (s : KeyState) → (κ ≡ write → ⊥) → ((a b : ℕ) → LastKey H a b (s.plain a b)) → (a b : ℕ)
     → LastKey (entry κ t o f x ∷ H) a b (s.plain a b)
-quiet κ t o f x H s n y a b = other (entry κ t o f x) H a b (s.plain a b) (λ w. n w.is_write_lem) (y a b)
+quiet κ t o f x H s n y a b = other (entry κ t o f x) H a b (s.plain a b) (λ w. n w.is_write) (y a b)
 
 written : (t o f x : ℕ) (H : List Record) (s : KeyState) → s.next ≡ suc (write_count H) → ((a b : ℕ) → LastKey H a b (s.plain a b)) → (a b : ℕ)
     → LastKey (entry write t o f x ∷ H) a b (put₂ s.plain o f s.next a b)
@@ -33,7 +33,7 @@ written t o f x H s e y a b = go (same_place o f a b)
     go : Dec ((o ≡ a) × (f ≡ b)) → LastKey (entry write t o f x ∷ H) a b (put₂ s.plain o f s.next a b)
     go (yes (p, q)) =
         let same : put₂ s.plain o f s.next a b ≡ s.next = rw (← p, ← q) (put₂_same s.plain o f s.next) in
-        rw (same, e) (last (length H) (last_here (entry write t o f x) H a b (record { is_write_lem = refl; same_object = p; same_field = q }))
+        rw (same, e) (last (length H) (last_here (entry write t o f x) H a b (record { is_write = refl; same_object = p; same_field = q }))
         (makes refl refl refl))
     go (no n) = rw (put₂_other s.plain o f s.next a b (λ p q. n (p, q)))
         (other (entry write t o f x) H a b (s.plain a b) (λ w. n (w.same_object, w.same_field)) (y a b))
@@ -57,5 +57,5 @@ last_key_step v lacks_write t o f x H s e y a b = quiet lacks_write t o f x H s 
 pub last_key : (v : Version) (H : List Record) → Legal v H → (o f : ℕ) → LastKey H o f ((after v H).plain o f)
 unfolding start
 last_key v [] l o f = never refl (never_start o f)
-last_key v (r ∷ H) l o f = last_key_step v r.kind r.thread r.object r.field r.value H (after v H) (invariant v H l.0).next_key_lem
+last_key v (r ∷ H) l o f = last_key_step v r.kind r.thread r.object r.field r.value H (after v H) (invariant v H l.0).next_key
     (last_key v H l.0) o f

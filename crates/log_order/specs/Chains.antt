@@ -27,7 +27,7 @@ pub data Chain (v : Version) (L : List Record) (i : ℕ) : ℕ → Type 0 where
 
 -- "A plain write in the log is a record of kind 3.": w is one of field f of object o
 pub record Writes (w : Record) (o f : ℕ) : Type 0 where
-  pub is_write_lem : w.kind ≡ write
+  pub is_write : w.kind ≡ write
   pub same_object : w.object ≡ o
   pub same_field : w.field ≡ f
 

@@ -55,7 +55,7 @@ module _ (b : List ℕ) (a : Accepted b) where
   unfolding table_of is_volatile program_of
   tabulates = record {
     ordered = ordered;
-    version_of_lem = refl;
+    version_of = refl;
     volatiles = λ f. refl;
     bodies = λ m d h. ap (λ (d : Procedure). d.body) (procedures_inside b m d h).1 ∙ body_tree m;
     all_bound = λ m d h.

@@ -32,7 +32,7 @@ get_map f (x ∷ xs) (suc i) = get_map f xs i
 -- the table is a program's
 pub record Tabulates (table : Table) (g : Program) : Type 0 where
   pub ordered : Descending table.node table.count
-  pub version_of_lem : table.version ≡ g.version
+  pub version_of : table.version ≡ g.version
   pub volatiles : (f : ℕ) → table.is_volatile f ≡ is_volatile g f
   pub bodies : (m : ℕ) (d : Procedure) → get_elem? g.procedures m ≡ some d → d.body ≡ tree table.node table.count (table.root m)
   pub all_bound : (m : ℕ) (d : Procedure) → get_elem? g.procedures m ≡ some d → T (closed (λ x. ltb x d.parameters) d.body)

@@ -108,7 +108,7 @@ module _ (tokens counts goals values words : List ℕ) (s : Standing) (st : Stat
   ready =
       let i = st.inside in
       let k = st.tokens_few in
-      record { going = gg; most_goals_lem = st.sized.most_goals_lem; most_values_lem = st.sized.most_values; at_small = omega arith; on_top = e }
+      record { going = gg; most_goals = st.sized.most_goals; most_values = st.sized.most_values; at_small = omega arith; on_top = e }
 
   pub code_sound : Sound code
   code_sound = subst Sound (sym e) (sound tokens counts goals values words s st gg)

@@ -236,7 +236,7 @@ module _ (counts tokens goals₀ values₀ words₀ : List ℕ) (s₀ : Standing
 
   module _ (d : s.goals ≡ 0 → ⊥) (l : s.goals ≤ length goals - 8) where
     few : s.goals ≤ 8400
-    few = let m = b.state.sized.most_goals_lem in omega arith
+    few = let m = b.state.sized.most_goals in omega arith
 
     pub run_full : length values - 8 < s.values → (r : Parsed) → r ≡ crowded_by words s.at → Ran tokens words₀ words s₀.left R r
     run_full h =

@@ -59,9 +59,9 @@ pub resized : {goals values words goals' values' words' : List ℕ} → Sized go
 resized z g v w =
     record {
       some_goals = rw g z.some_goals;
-      most_goals_lem = rw g z.most_goals_lem;
+      most_goals = rw g z.most_goals;
       some_values = rw v z.some_values;
-      most_values_lem = rw v z.most_values;
+      most_values = rw v z.most_values;
       most_words = rw w z.most_words;
       whole = λ e. let q = z.whole (sym w ∙ e) in (g ∙ q.0, v ∙ q.1);
     }

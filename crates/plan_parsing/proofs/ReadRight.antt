@@ -67,7 +67,7 @@ module _ (counts : List ℕ) (gs : List Goal) (vs' : List Value) (n n' : ℕ) (t
     rest : List ℕ
     steps : ℕ
     begins : ts ≡ t ∷ rest
-    goes_on_lem : parse_by counts steps gs vs n rest ≡ parsed vs' n' ts'
+    goes_on : parse_by counts steps gs vs n rest ≡ parsed vs' n' ts'
 
   expected : (k t : ℕ) (vs : List Value) (ts : List ℕ) → (t ≡ text_end → ⊥) → parse_by counts k (expect t ∷ gs) vs n ts ≡ parsed vs' n' ts' → Expected t vs ts
   unfolding parse_by
@@ -81,7 +81,7 @@ module _ (counts : List ℕ) (gs : List Goal) (vs' : List Value) (n n' : ℕ) (t
           vs' n' ts' → Expected t vs us
       by_token us false q e = none_stopped (expect t) us ts' vs' n' e
       by_token [] true q e = absurd (h (sym (eqb-true text_end t q)))
-      by_token (u ∷ us) true q e = record { rest = us; steps = k; begins = ap (λ (t : ℕ). t ∷ us) (eqb-true u t q); goes_on_lem = e }
+      by_token (u ∷ us) true q e = record { rest = us; steps = k; begins = ap (λ (t : ℕ). t ∷ us) (eqb-true u t q); goes_on = e }
 
   -- a count of parameters
   record Counted (vs : List Value) (ts : List ℕ) : Type 0 where
@@ -90,7 +90,7 @@ module _ (counts : List ℕ) (gs : List Goal) (vs' : List Value) (n n' : ℕ) (t
     rest : List ℕ
     steps : ℕ
     begins : ts ≡ parameters ∷ rest
-    goes_on_lem : parse_by counts steps gs (number parameters ∷ vs) n rest ≡ parsed vs' n' ts'
+    goes_on : parse_by counts steps gs (number parameters ∷ vs) n rest ≡ parsed vs' n' ts'
 
   counted : (k : ℕ) (vs : List Value) (ts : List ℕ) → parse_by counts k (goals.count ∷ gs) vs n ts ≡ parsed vs' n' ts' → Counted vs ts
   unfolding parse_by
@@ -104,7 +104,7 @@ module _ (counts : List ℕ) (gs : List Goal) (vs' : List Value) (n n' : ℕ) (t
           (cond x (go [] (number (ahead us 0) ∷ vs) n (drop 1 us)) (stop (wanted goals.count) us)) ≡ parsed vs' n' ts' → Counted vs us
       by_token us false q e = none_stopped goals.count us ts' vs' n' e
       by_token [] true q e = absurd (true≢false (sym q))
-      by_token (u ∷ us) true q e = let small = ltb-true u 9 q in record { parameters = u; few = omega arith; rest = us; steps = k; begins = refl; goes_on_lem = e }
+      by_token (u ∷ us) true q e = let small = ltb-true u 9 q in record { parameters = u; few = omega arith; rest = us; steps = k; begins = refl; goes_on = e }
 
 -- ---- a procedure
 

@@ -102,9 +102,9 @@ lent t c w g v ht hc hw lg hg lv hv e =
       sized =
           record {
             some_goals = rw x lg;
-            most_goals_lem = rw x hg;
+            most_goals = rw x hg;
             some_values = rw y lv;
-            most_values_lem = rw y hv;
+            most_values = rw y hv;
             most_words = rw d hw;
             whole = λ q. let z = e (sym d ∙ q) in (x ∙ z.0, y ∙ z.1);
           };

@@ -381,7 +381,7 @@ module _ (g : Program) (P : WellFormedProgram g) (version_1 : g.version ≡ v1) 
       ∙ turned_numbers S L [] p
 
   Y : Writing D.before D.thread (shown D.thread D.entry)
-  Y = writing D.moves (ap (λ (w : Record). w.kind) D.is_it ∙ W.writes.is_write_lem)
+  Y = writing D.moves (ap (λ (w : Record). w.kind) D.is_it ∙ W.writes.is_write)
 
   write_at : At (r ∷ M) i (shown D.thread D.entry)
   write_at = along (λ (w : Record). At (r ∷ M) i w) (sym D.is_it) W.at_i
@@ -479,13 +479,13 @@ module _ (g : Program) (P : WellFormedProgram g) (version_1 : g.version ≡ v1) 
     writer_is = ap (numbers_of S L) (ap (λ (w : Record). w.thread) its_write ∙ (mover D.moves).2) ∙ sym (numbers_turned D.thread) ∙ Z.writer_is;
     write_part = Z.write_part;
     about_write = along (λ (c : State). About c Z.writer Z.write_part) (sym final) Z.about_write;
-    is_write_lem = along (λ (w : Record). Renamed Z.ω w Z.write_part) (sym its_write)
-        (written_renamed w₀ (ap (λ (w : Record). w.kind) D.is_it ∙ W.writes.is_write_lem) Z.ω Z.write_part Z.write_like);
+    is_write = along (λ (w : Record). Renamed Z.ω w Z.write_part) (sym its_write)
+        (written_renamed w₀ (ap (λ (w : Record). w.kind) D.is_it ∙ W.writes.is_write) Z.ω Z.write_part Z.write_like);
     other = Z.other;
     other_is = ap (numbers_of S L) X.mover_is ∙ sym (numbers_turned R.thread) ∙ Z.other_is;
-    access_part_lem = Z.access_part_lem;
-    about_access = along (λ (c : State). About c Z.other Z.access_part_lem) (sym final) Z.about_access;
-    is_access_lem = X.renames Z.ω Z.access_part_lem Z.access_like;
+    access_part = Z.access_part;
+    about_access = along (λ (c : State). About c Z.other Z.access_part) (sym final) Z.about_access;
+    is_access = X.renames Z.ω Z.access_part Z.access_like;
     two_threads = Z.two apart;
     field_there = λ o h. along (λ (c : State). (d : Cell) × (lookup c o r.field ≡ some d)) (sym final) (field o h);
     plain = X.plain;

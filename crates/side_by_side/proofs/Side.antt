@@ -44,7 +44,7 @@ pub record Met (g : Program) (S : Marks) (H : List Record) (p q : ℕ) (y x : Re
   pub write_like : LikePart ω y write_part
   pub other : ℕ
   pub other_is : numbers S H q ≡ some other
-  pub access_part_lem : Redex
+  pub access_part : Redex
   pub about_access : About end other access_part_lem
   pub access_like : LikePart ω x access_part_lem
   pub two : (p ≡ q → ⊥) → writer ≡ other → ⊥
@@ -93,7 +93,7 @@ module _ (g : Program) (P : WellFormedProgram g) (Q : WaitlessProgram g) (S : Ma
     write_part = n₀.part;
     about_write = record { thread = B.stands.thread; there = B.stands.there; around = n₀.around; next_is = n₀.found };
     write_like = n₀.part_like;
-    access_part_lem = n.part;
+    access_part = n.part;
     about_access = record { thread = m.thread; there = m.there; around = n.around; next_is = n.found };
     access_like = n.part_like;
     two = λ d e. d (B.its.corr.names.threads_apart p q m.number (B.stands.named ∙ ap {B = Option ℕ} some e) m.named);

@@ -115,7 +115,7 @@ heard_most {v} {b} {j} {row} R u h = go (clock_of row u) (R.newest u h)
 module _ {v : Version} {b : List ℕ} {j i : ℕ} {w : Columns} {row : Row} (R : HeardBy v b j row) (W : ReadAt b i w) (within : i < length b / 3) where
   chain→heard : Chain v (log_of b) i j → ltb i (clock_of row w.thread) ≡ true
   chain→heard k = lt-ltb i (clock_of row w.thread) ((R.newest w.thread W.narrow.thread_below).none_newer i
-      (record { by = record_at b i; at = record_here b i within; of_thread_lem = sym W.thread_is; chain = k }))
+      (record { by = record_at b i; at = record_here b i within; of_thread = sym W.thread_is; chain = k }))
 
   newest→chain : (n : ℕ) → Newest v (log_of b) j w.thread n → i < n → Chain v (log_of b) i j
   newest→chain zero N h = absurd (omega arith)
@@ -123,7 +123,7 @@ module _ {v : Version} {b : List ℕ} {j i : ℕ} {w : Columns} {row : Row} (R :
     where
       go : Dec (i ≡ m) → Heard v (log_of b) j w.thread m → Chain v (log_of b) i j
       go (yes e) d = along (λ (n : ℕ). Chain v (log_of b) n j) (sym e) d.chain
-      go (no n) d = chain_on (thread_chain v (log_of b) i m (record_at b i) d.by (record_here b i within) d.at (sym W.thread_is ∙ sym d.of_thread_lem)
+      go (no n) d = chain_on (thread_chain v (log_of b) i m (record_at b i) d.by (record_here b i within) d.at (sym W.thread_is ∙ sym d.of_thread)
           (omega (arith, n))) d.chain
 
   heard→chain : ltb i (clock_of row w.thread) ≡ true → Chain v (log_of b) i j

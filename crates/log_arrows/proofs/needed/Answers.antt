@@ -14,11 +14,14 @@ rows-requires c = record { accepted = c.requires.accepted; sized = log_short c.a
 pub all-requires : goal.all-requires
 all-requires c =
     let heard = c.rows in
-    let short = log_short c.args.log.now c.requires.accepted in record { earlier = heard_earlier (version_of c.args.version) (log_of c.args.log.now) _ _ heard.ensures (omega (arith, short, heard.auto.heard.1.0)); short = short; room = c.requires.room }
+    let short = log_short c.args.log.now c.requires.accepted in record { earlier = heard_earlier (version_of c.args.version) (log_of c.args.log.now) _ _ heard.ensures (omega (arith, short, heard.auto.heard)); short = short; room = c.requires.room }
 
 pub returns : goal.returns
 returns c =
     let v = version_of c.args.version in
     let b = c.args.log.now in
-    let all = c.all in record { few = all.ensures.few; arrows = subst (AllArrows v (log_of b)) (sym all.ensures.arrows)
-          (whole v b _ c.requires.accepted c.rows.ensures) }
+    let all = c.all in record {
+      few = all.ensures.few;
+      arrows = subst (AllArrows v (log_of b)) (sym all.ensures.arrows)
+          (whole v b _ c.requires.accepted c.rows.ensures);
+    }

@@ -9,7 +9,7 @@ use Rattle.log_clocks.specs.Inner.Rows.{Row, clock_of, row_at}
 pub record Heard (v : Version) (L : List Record) (j u m : ℕ) : Type 0 where
   pub by : Record
   pub at : At L m by
-  pub of_thread_lem : by.thread ≡ u
+  pub of_thread : by.thread ≡ u
   pub chain : Chain v L m j
 
 -- n is 1 more than the index of the newest such record, or 0 where there is none

@@ -26,7 +26,7 @@ access-requires-then-access c =
     let f = c.first-at.ensures in
     let n = number_most c.number_at-number.ensures p.numbered in
     let t = c.thread_at-thread.ensures.result_in in
-    (p.sound, (t, (omega (arith, p.short), ((omega arith, omega (arith, p.most_below)), omega (arith, p.room)))))
+    record { sound = p.sound; thread_in = t; time_in = omega (arith, p.short); at_in = (omega arith, omega (arith, p.most_below)); room = omega (arith, p.room) }
 
 pub returns-then-access-2 : goal.returns-then-access-2
 returns-then-access-2 c =
@@ -52,7 +52,7 @@ hear-requires c =
     let f = c.first-at-then-hears.ensures in
     let n = number_most c.number_at-number-then-hears.ensures p.numbered in
     let t = c.thread_at-thread.ensures.result_in in
-    (omega (arith, p.room), (omega (arith, p.room), p.sound))
+    record { row_in = omega (arith, p.room); other_in = omega (arith, p.room); sound = p.sound }
 
 pub returns-then-hears : goal.returns-then-hears
 returns-then-hears c =
@@ -71,7 +71,7 @@ tell-requires c =
     let f = c.first-at-then-tells.ensures in
     let n = number_most c.number_at-number-then-tells.ensures p.numbered in
     let t = c.thread_at-thread.ensures.result_in in
-    (omega (arith, p.room), (omega (arith, p.room), (omega (arith, p.short), p.sound)))
+    record { row_in = omega (arith, p.room); other_in = omega (arith, p.room); time_in = omega (arith, p.short); sound = p.sound }
 
 pub returns-then-tells : goal.returns-then-tells
 returns-then-tells c =

@@ -13,7 +13,7 @@ pub loop-index-init : goal.loop-index-init
 loop-index-init c = (omega arith, refl, λ k h. absurd (omega arith))
 
 pub four_wrong-requires : goal.four_wrong-requires
-four_wrong-requires c = (omega (arith, c.loop-index.invariant.1), c.requires)
+four_wrong-requires c = record { index_in = omega (arith, c.loop-index.invariant.1); least_value = c.requires.least_value; zero_value = c.requires.zero_value }
 
 pub returns-then-four_wrong : goal.returns-then-four_wrong
 unfolding record_count

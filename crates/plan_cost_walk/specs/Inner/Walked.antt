@@ -62,8 +62,8 @@ unfoldable mutual
   walkedᵃ b T n (Arguments.argument e es) = walkedᵃ b T (walked b T n e) es
 
 -- two expressions, one after the other
-abbrev pub in_turn_lem : Bool → (ℕ → ℕ) → ℕ → Expression → Expression → ℕ
-in_turn_lem b T n e e' = walked b T (walked b T n e) e'
+abbrev pub in_turn : Bool → (ℕ → ℕ) → ℕ → Expression → Expression → ℕ
+in_turn b T n e e' = walked b T (walked b T n e) e'
 
 -- one of two expressions
 abbrev pub either : Bool → (ℕ → ℕ) → ℕ → Expression → Expression → ℕ

@@ -19,7 +19,7 @@ begin-requires : tie.Need-begin-requires
 begin-requires c κs = let z = c.before.before.before.before.before.before.requires.5 in (
   c.before.before.before.before.before.before.requires.2,
   z.some_goals,
-  z.most_goals_lem,
+  z.most_goals,
 )
 
 run-requires : tie.Need-run-requires

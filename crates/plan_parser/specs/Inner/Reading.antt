@@ -20,9 +20,9 @@ use Rattle.plan_parser.specs.declared.Parsed.TheVariants.{Read, Stopped, Full}
 -- arrays for every text, or shorter ones, whose words are fewer
 pub record Sized (goals values words : List ℕ) : Type 0 where
   pub some_goals : 16 ≤ length goals
-  pub most_goals_lem : length goals ≤ 8408
+  pub most_goals : length goals ≤ 8408
   pub some_values : 16 ≤ length values
-  pub most_values_lem : length values ≤ 3108
+  pub most_values : length values ≤ 3108
   pub most_words : length words ≤ 1024
   pub whole : length words ≡ 1024 → (length goals ≡ 8408) × (length values ≡ 3108)
 
@@ -61,8 +61,8 @@ pub record Found (tokens counts goals values words : List ℕ) (s : Standing) (m
 -- there is room for what a move does
 pub record Room (goals values : List ℕ) (s : Standing) (taken kept next popped value : ℕ) : Type 0 where
   pub going : Going goals values s
-  pub most_goals_lem : length goals ≤ 8408
-  pub most_values_lem : length values ≤ 3108
+  pub most_goals : length goals ≤ 8408
+  pub most_values : length values ≤ 3108
   pub at_small : s.at ≤ 16384
   pub taken_small : taken ≤ 1024
   pub kept_small : kept < 1024

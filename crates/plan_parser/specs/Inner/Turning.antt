@@ -27,8 +27,8 @@ sight_of tokens words values s =
 -- the goal of this number is on top, and there is room for what it does
 pub record Ready (goals values : List ℕ) (s : Standing) (code : ℕ) : Type 0 where
   pub going : Going goals values s
-  pub most_goals_lem : length goals ≤ 8408
-  pub most_values_lem : length values ≤ 3108
+  pub most_goals : length goals ≤ 8408
+  pub most_values : length values ≤ 3108
   pub at_small : s.at ≤ 16384
   pub on_top : code ≡ get_or goals (s.goals - 1) 0
 

@@ -64,7 +64,7 @@ put-new-requires c κs =
     let p = c.before.before.before.before.before.before.before.before.before.before.requires in
     room _ p.ordered [] _ _ _ p.some p.contexts _ _
     (new_item _ p.ordered _ _ _ _ c.before.before.before.before.before.before.if1.false c.before.before.before.before.tag.ensures
-    c.before.before.before.is_new_lem.ensures c.before.before.if2.true c.mask-of.ensures) p.room
+    c.before.before.before.is_new.ensures c.before.before.if2.true c.mask-of.ensures) p.room
 
 same_length_2 : tie.Need-same-length-2
 same_length_2 c = c.before.before.put-new.ensures.kept
@@ -74,7 +74,7 @@ returns_2 c =
     let p = c.before.before.before.before.before.before.before.before.before.before.before.before.before.requires in
     written_step _ p.ordered _ _ _ _ p.some p.contexts _ _ _
     (new_item _ p.ordered _ _ _ _ c.before.before.before.before.before.before.before.before.before.if1.false
-    c.before.before.before.before.before.before.before.tag.ensures c.before.before.before.before.before.before.is_new_lem.ensures
+    c.before.before.before.before.before.before.before.tag.ensures c.before.before.before.before.before.before.is_new.ensures
     c.before.before.before.before.before.if2.true c.before.before.before.mask-of.ensures)
     (new_some _) c.before.before.put-new.ensures
 
@@ -96,7 +96,7 @@ returns_3 : tie.Need-returns-3
 returns_3 c =
     let p = c.before.before.before.before.before.before.before.before.before.before.before.before.before.requires in
     row_item _ p.ordered _ _ _ _ p.some p.contexts _ _ _ _ c.before.before.before.before.before.before.before.before.before.if1.false
-    c.before.before.before.before.before.before.before.tag.ensures c.before.before.before.before.before.before.is_new_lem.ensures
+    c.before.before.before.before.before.before.before.tag.ensures c.before.before.before.before.before.before.is_new.ensures
     c.before.before.before.before.before.if2.false c.before.before.before.Row-as.ensures.0
     c.before.before.before.Row-as.ensures.1 _ c.before.before.push_row.ensures
 

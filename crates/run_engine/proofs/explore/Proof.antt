@@ -692,7 +692,7 @@ left_so c =
           };
           ready = w.7;
         };
-        goes_on_lem = w.8;
+        goes_on = w.8;
       };
       if3 = w.9;
     }) in
@@ -718,7 +718,7 @@ left_so c =
           };
           ready = w.7;
         };
-        goes_on_lem = w.8;
+        goes_on = w.8;
       };
       if3 = w.9;
     }) in

@@ -9,9 +9,7 @@ use borrow.Author.Rules.{rules}
 use Rattle.log_arrows.proofs.listed.all.Goals as goal
 
 pub loop-index-init : goal.loop-index-init
-loop-index-init c = let s =
-    c in
-    (omega arith, refl, refl, omega arith, below_start (heard_in s.args.rows.now) (thread_at s.args.log.now) s.args.from.now s.args.to.now)
+loop-index-init c = (omega arith, refl, refl, omega arith, below_start (heard_in c.args.rows.now) (thread_at c.args.log.now) c.args.from.now c.args.to.now)
 
 pub to_one-held-requires : goal.to_one-held-requires
 to_one-held-requires c =
@@ -24,8 +22,8 @@ loop-index-preserved c =
     let columns = c.columns_at-columns in
     let one = c.to_one-held in (
       omega (arith, c.loop-index-test.true),
-      one.auto.to.1.1.0 ∙ l.invariant.1,
-      one.auto.to.1.1.1.0 ∙ l.invariant.2,
+      one.auto.from ∙ l.invariant.1,
+      one.auto.to ∙ l.invariant.2,
       omega (arith, l.invariant.3, one.ensures.one_less columns.ensures.narrow.thread_below),
       below_more (heard_in c.args.rows.now) (thread_at c.args.log.now) l.index columns.result.thread l.held l.from l.to
           one.result _ _

@@ -20,14 +20,13 @@ room : (c : Then-needed) → c.loop-thread.held < c.args.count + 7
 room c = added_room _ _ _ _ _ _ _ _ _ _ c.loop-thread.invariant.3 (is_needed_lem c) c.requires.own_in (omega arith)
 
 pub loop-thread-init : goal.loop-thread-init
-loop-thread-init c = let s =
-    (goal.at.loop-thread-init c).Start in (
-      omega arith,
-      refl,
-      refl,
-      added_start (heard_in s.args.rows.now) s.args.own s.args.index s.args.count s.args.from.now
-          s.args.to.now,
-    )
+loop-thread-init c = (
+  omega arith,
+  refl,
+  refl,
+  added_start (heard_in c.args.rows.now) c.args.own c.args.index c.args.count c.args.from.now
+      c.args.to.now,
+)
 
 pub needed-requires : goal.needed-requires
 needed-requires c = record { earlier = c.requires.earlier; thread_in = omega arith }
@@ -58,20 +57,20 @@ loop-thread-preserved c =
     let l = c.loop-thread in
     ⊎_elim
     (λ w.
-    let t : tie.Then1 invariant-loop decreases-loop = record { before = (goal.at.loop-thread-preserved c).After-needed; if1 = w.0 } in
-    let m = room t in
+    let k : is_needed (heard_in c.args.rows.now) c.args.own c.args.index l.thread ≡ true = sym c.needed.ensures ∙ w.if-needed.true in
+    let m : l.held < c.args.count + 7 = added_room _ _ _ _ _ _ _ _ _ _ l.invariant.3 k c.requires.own_in (omega arith) in
     let f = c.requires.room.from_room in
     let g = c.requires.room.to_room in (
       omega (arith, c.loop-thread-test.true),
-      ap length w.1 ∙ length-set l.from l.held _ ∙ l.invariant.1,
-      ap length w.2 ∙ length-set l.to l.held _ ∙ l.invariant.2,
-      rw (w.1, w.2, w.3) (added_needed _ _ _ _ _ _ _ _ _ _ l.invariant.3 (is_needed_lem t) (omega (arith, m, f, l.invariant.1)) (omega (arith, m, g, l.invariant.2))),
+      ap length w.from-is ∙ length-set l.from l.held _ ∙ l.invariant.1,
+      ap length w.to-is ∙ length-set l.to l.held _ ∙ l.invariant.2,
+      rw (w.from-is, w.to-is, w.held-is) (added_needed _ _ _ _ _ _ _ _ _ _ l.invariant.3 k (omega (arith, m, f, l.invariant.1)) (omega (arith, m, g, l.invariant.2))),
     ))
     (λ w. (
       omega (arith, c.loop-thread-test.true),
-      ap length w.1 ∙ l.invariant.1,
-      ap length w.2 ∙ l.invariant.2,
-      rw (w.1, w.2, w.3) (added_skipped _ _ _ _ _ _ _ _ _ _ l.invariant.3 (sym c.needed.ensures ∙ w.0.false)),
+      ap length w.from-is ∙ l.invariant.1,
+      ap length w.to-is ∙ l.invariant.2,
+      rw (w.from-is, w.to-is, w.held-is) (added_skipped _ _ _ _ _ _ _ _ _ _ l.invariant.3 (sym c.needed.ensures ∙ w.if-needed.false)),
     ))
     c.if-needed.branch-raw
 

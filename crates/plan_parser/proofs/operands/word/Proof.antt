@@ -76,8 +76,8 @@ go-requires c κs =
     let w = word_taken _ _ _ _ _ form_of.ensures taken-by.ensures value_of_lem.ensures in
     record {
       going = d.going;
-      most_goals_lem = d.most_goals_lem;
-      most_values_lem = d.most_values;
+      most_goals = d.most_goals;
+      most_values = d.most_values;
       at_small = d.at_small;
       taken_small = omega arith;
       kept_small = omega arith;
