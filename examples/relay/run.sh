@@ -3,12 +3,13 @@
 # left in target/examples. Some 6,000 schedules are played and judged, a process to each: up to a minute.
 set -eu
 cd "$(dirname "$0")/../.."
-[ -x target/bin/plancheck ] || rt check plancheck >&2
+program=crates/plancheck/out/plancheck
+[ -x "$program" ] || (cd crates/plancheck && rt run < stdin) >&2
 relay=examples/relay
 out=target/examples
 mkdir -p "$out"
 plancheck() {
-    target/bin/plancheck "$@"
+    "$program" "$@"
 }
 
 # Every interleaving of a plan: how many, how many of them race, and in how many the judge names an access.

@@ -1,5 +1,5 @@
-// Fields of a plan, most significant bit first: a struct that holds the plan and a bit position, and thin functions over it. The borrow checker covers no
-// function over such a struct, so each is proved by hand and leaves the work to `bits_at`, which takes a plain slice and is covered.
+// Fields of a plan, most significant bit first: a struct that holds the plan and a bit position, and thin functions over it, which leave the work to
+// `bits_at` over a plain slice.
 #![tactic(auto)]
 
 ghost use Rattle.std.specs.Prelude.{◌≡◌, ◌+◌, ◌*◌, ◌≤◌, length};
@@ -52,7 +52,7 @@ pub fn take<'a>(reader: Reader<'a>, width: usize) -> usize
     bits_at(reader.plan, reader.at, width)
 }
 
-// The `width` bits from bit `at` of the plan on. Its parameters are plain, so whoever calls it needs no proof by hand.
+// The `width` bits from bit `at` of the plan on.
 pub fn field(plan: &[u8], at: usize, width: usize) -> usize
     requires { (at + width ≤ 8 * length plan.now) × (width ≤ 40) }
     ensures { result ≡ bits_at plan.now at width }

@@ -5,12 +5,12 @@ use mathlib.Core.List.{List, [], ◌∷◌, ◌++◌}
 use mathlib.Core.Option.{some, none}
 use Rattle.format.specs.Version.{v0, v1}
 use Rattle.text.specs.Text.{ascii}
-use Rattle.plan◌packed.specs.Syntax.{Signal, Expression, Condition, Arguments, Procedure, Program, sequence}
-use Rattle.plan◌packed.specs.Syntax as syntax
+use Rattle.plan_packed.specs.Syntax.{Signal, Expression, Condition, Arguments, Procedure, Program, sequence}
+use Rattle.plan_packed.specs.Syntax as syntax
 use Rattle.plan_notation.specs.Tokens.{text_end}
-use Rattle.plan◌notation.specs.Shown.{shown_plan}
-use Rattle.plan◌notation.specs.Lexing.{codes_of}
-use Rattle.plan◌notation.specs.Text.{text_of_program}
+use Rattle.plan_notation.specs.Shown.{shown_plan}
+use Rattle.plan_notation.specs.Lexing.{codes_of}
+use Rattle.plan_notation.specs.Text.{text_of_program}
 
 -- main alone, in version 1, with no volatile field but 0
 main_alone : Expression → Program

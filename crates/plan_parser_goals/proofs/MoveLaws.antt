@@ -41,6 +41,7 @@ mask_room f m t (number k ∷ vs) h e a b = room k m (2 ^ (31 - t)) (2 ^ (31 - f
   where
     room : (k m x y : ℕ) → k < suc (4294967296 - y) → k ≡ m → x < y → y ≤ 2 ^ 32 → m + x < 4294967296
     room k m x y p q r z = omega arith
+mask_room f m t [] h e a b = elim h [ ]
 
 module _ (counts : List ℕ) (s : Sight) where
   -- ---- a token

@@ -45,8 +45,8 @@ pub record Met (g : Program) (S : Marks) (H : List Record) (p q : ℕ) (y x : Re
   pub other : ℕ
   pub other_is : numbers S H q ≡ some other
   pub access_part : Redex
-  pub about_access : About end other access_part_lem
-  pub access_like : LikePart ω x access_part_lem
+  pub about_access : About end other access_part
+  pub access_like : LikePart ω x access_part
   pub two : (p ≡ q → ⊥) → writer ≡ other → ⊥
 
 closed_before : (S : Marks) {g : Program} {s₀ s : State} {H₀ H : List Record} → Later g s₀ H₀ s H → Closed S H → Closed S H₀

@@ -63,8 +63,8 @@ pub record SideBySide (g : Program) (ps qs : List ℕ) (w : Written g ps qs) : T
   pub other : ℕ
   pub other_is : numbers_of w.kept (moves_of g ps) w.access.thread ≡ some other
   pub access_part : Redex
-  pub about_access : About (play g qs).final other access_part_lem
-  pub is_access : Renamed objects w.access access_part_lem
+  pub about_access : About (play g qs).final other access_part
+  pub is_access : Renamed objects w.access access_part
   pub two_threads : writer ≡ other → ⊥
   pub field_there : (o : ℕ) → objects w.access.object ≡ some o → (d : Cell) × (lookup (play g qs).final o w.access.field ≡ some d)
   pub plain : is_volatile g w.access.field ≡ false

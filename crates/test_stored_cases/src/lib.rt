@@ -58,15 +58,13 @@ fn begins(area: &[u8], records: &[u8]) -> bool {
     if area.len() < records.len() {
         return false;
     }
-    let mut index = 0;
     let mut same = true;
-    while index < area.len() {
+    for index in 0..area.len() {
         if index < records.len() {
             same = same & (area[index] == records[index]);
         } else {
             same = same & (area[index] == FILL);
         }
-        index += 1;
     }
     same
 }

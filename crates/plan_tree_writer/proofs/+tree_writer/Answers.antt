@@ -97,9 +97,10 @@ begin_condition-write_child-end-requires t c =
     let w = c.word-word.ensures in
     let a = equal_at _ c.requires.ordered.0 _ (rw w at (sym c.tag.ensures ∙ c.in-15.is)) in
     let f = rw (c.first-first.ensures, w) at c.write_child-second.ensures in
-    rw (c.second-in-15.ensures, w)
-    (later _ _ _ c.decreases a.second_later a.second_inside,
-    ((c.requires.ordered.0, a.second_inside), two_second c.requires.room a.two_shape f (put_keeps _ _ _ c.put-in-15.ensures)))
+    rw (c.second-in-15.ensures, w) (
+      later _ _ _ c.decreases a.second_later a.second_inside,
+      ((c.requires.ordered.0, a.second_inside), two_second c.requires.room a.two_shape f (put_keeps _ _ _ c.put-in-15.ensures)),
+    )
 
 pub begin_condition-put-requires-in_default : goal.begin_condition-put-requires-in_default
 begin_condition-put-requires-in_default t c = put_room c.requires.room
@@ -257,9 +258,10 @@ pub begin_expression-write_list-end-requires : goal.begin_expression-write_list-
 begin_expression-write_list-end-requires t c =
     let w = c.word-word.ensures in
     let a = call_at _ c.requires.ordered.0 _ (rw w at (sym c.tag-tag.ensures ∙ c.in-8.is)) in
-    rw (c.list_of.ensures, w)
-    (later _ _ _ c.decreases a.one_later a.one_inside,
-    ((c.requires.ordered.0, a.one_inside), one_room c.requires.room a.one_shape (put_keeps _ _ _ c.put-in-8.ensures)))
+    rw (c.list_of.ensures, w) (
+      later _ _ _ c.decreases a.one_later a.one_inside,
+      ((c.requires.ordered.0, a.one_inside), one_room c.requires.room a.one_shape (put_keeps _ _ _ c.put-in-8.ensures)),
+    )
 
 pub begin_expression-put-requires-in_default : goal.begin_expression-put-requires-in_default
 begin_expression-put-requires-in_default t c = put_room c.requires.room

@@ -70,7 +70,7 @@ loop-term-preserved c =
     let l = c.loop-term in
     let b = c.args.plan.now in
     let f = c.requires.headed.few in
-    let right = verdict c false c.if-wrong_term.false in (
+    let right = verdict (goal.at.loop-term-preserved c).After-wrong_term false c.if-wrong_term.false in (
       search rules,
       below_more _ _ l.invariant.1 right,
       rw add-one (loaded_more b l.term l.words c.word_at-word.result (omega arith) c.word_at-word.ensures l.invariant.2),

@@ -1,0 +1,16 @@
+-- `looks::begins` meets its contract. Assumes nothing.
+use Prim.Native.Nat.{ℕ}
+use mathlib.Core.Path.{ap, ◌∙◌}
+use native.Mathlib.Omega.{arith}
+use mathlib.Core.List.{[]}
+use lib.Dec.{leb}
+use lib.ListN.{get_or}
+use borrow.Author.Rules.{rules}
+use Rattle.plan_pen.proofs.LookLaws.{ahead_at, begins_is}
+use Rattle.plan_pen.proofs.looks.begins.Goals as goal
+
+pub returns : goal.returns
+returns c =
+    ap (λ (k : ℕ). leb 128 (get_or (get_or c.args.looks.now k []) 1 0)) c.wide.ensures.0
+    ∙ ap (λ (v : ℕ). leb 128 v) (ahead_at _ c.requires.looks_value c.args.token (omega (arith, c.requires.token_lt_text_end)))
+    ∙ begins_is c.args.token c.requires.token_lt_text_end
