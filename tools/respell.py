@@ -4,7 +4,7 @@
 usage: respell.py [FOLDER]     once, at the top of a repository (or of FOLDER) that has crates/, behind the kit's own script
 
 A name is one that a file of specs/ or proofs/ declares: `bitsAt` becomes `bits_at`, `field-of` becomes `field_of`. A lemma whose name would then be a
-definition's gets `_lem`. A type keeps its capital, and a name of capitals alone is a rule's or a refusal's and stays. A word turns as a whole, in .antt
+definition's gets `_lem`. A record's field gets none. A type keeps its capital, and a name of capitals alone is a rule's or a refusal's and stays. A word turns as a whole, in .antt
 files, in .rt files outside strings, in must-fail edits, and in code spans of .md files; it stays in a file that imports it from a library. The module
 `inner` of specs/ is `Inner`, its folder too. What would fall together is printed on a line that begins 'met:'.
 """
@@ -31,6 +31,23 @@ def spelled(name):
 
 def turns(name):
     return not (name[0].isupper() or name[0] in "+μ◌" or not re.search(r"[a-z]", name))
+
+
+def in_records(code):
+    """Where the fields of records stand: the begin and the end of each record's text, and the names of its fields."""
+    lines, at = code.split("\n"), 0
+    begun = None
+    for line in [*lines, "end"]:
+        indent = len(line) - len(line.lstrip())
+        if begun and line.strip() and indent <= begun[1]:
+            yield begun[0], at, begun[2]
+            begun = None
+        if re.match(r" *(pub )?record ", line):
+            begun = (at, indent, set())
+        elif begun:
+            m = re.match(r" *(?:pub )?([^:()]*?) :(?=\s|$)", line)
+            begun[2].update(m[1].split() if m else ())
+        at += len(line) + 1
 
 
 def files(top, *endings):
@@ -81,12 +98,21 @@ def from_libraries(code):
     return out
 
 
-def turned(code, rows, stay):
-    """The code with its words turned. A word in snake case that gives way to a definition may be a function's too, and turns only behind no dot."""
+def turned(code, rows, stay, fields=(), within=()):
+    """The code with its words turned. A word in snake case that gives way to a definition may be a function's too, and turns only behind no dot. A field, behind
+    a dot, in a record's literal or in the record, has its plain spelling."""
 
     def one(m):
-        dotted = code[m.start() - 1 : m.start()] == "." and "-" not in m[0] and m[0].islower()
-        return m[0] if m[0] in stay or dotted else rows.get(m[0], m[0])
+        word = m[0]
+        if word in stay:
+            return word
+        dotted = code[m.start() - 1 : m.start()] == "."
+        literal = re.search(r"[{;]\s*$", code[: m.start()][-40:]) and code[m.end() : m.end() + 2] == " ="
+        if word in fields and (dotted or literal) or any(a <= m.start() < b and word in names for a, b, names in within):
+            return spelled(word) if turns(word) else word
+        if dotted and "-" not in word and word.islower():
+            return word
+        return rows.get(word, word)
 
     return re.sub(WORD, one, code)
 
@@ -108,6 +134,7 @@ def modules(text):
 def main(top):
     crates = os.path.join(top, "crates")
     rows = table(*declared(crates))
+    fields = {n for path in files(crates, ".antt") for _, _, names in in_records(COMMENT.sub("", read(path))) for n in names}
     of_text = {old: new for old, new in rows.items() if not re.fullmatch(r"[a-z0-9_]+", old)}
     for path in [*files(crates, ".antt", ".rt", ".edit"), *files(top, ".md")]:
         old = text = read(path)
@@ -115,7 +142,7 @@ def main(top):
         if path.endswith(".md"):
             text = SPAN.sub(lambda m: turned(m[0], of_text, set()), text)
         elif path.endswith(".edit"):
-            text = "\n".join(l if l[:1] == "#" else turned(l, rows, set()) for l in text.split("\n"))
+            text = "\n".join(l if l[:1] == "#" else turned(l, rows, set(), fields) for l in text.split("\n"))
         else:
             stay = from_libraries(COMMENT.sub("", text)) if path.endswith(".antt") else {old for old in rows if re.fullmatch(r"[a-z0-9_]+", old)}
             quiet = re.compile((COMMENT if path.endswith(".antt") else re.compile(r"//[^\n]*")).pattern + "|" + QUOTED.pattern)
@@ -124,7 +151,7 @@ def main(top):
                 new = rows.get(word)
                 if new and new in there and new not in rows:
                     print("met:", os.path.relpath(path, top), word, new)
-            text = outside(quiet, text, lambda s: turned(s, rows, stay), lambda q: q if q[0] == '"' else spans(q))
+            text = outside(quiet, text, lambda s: turned(s, rows, stay, fields, list(in_records(s))), lambda q: q if q[0] == '"' else spans(q))
         text = modules(text)
         if text != old:
             with open(path, "w", encoding="utf-8") as f:

@@ -1,5 +1,6 @@
 // Files and standard input, areas, and schedules.
 ghost use Rattle.std.specs.Prelude.{◌≡◌, ◌≤◌, IfOk, IfSome, length, take};
+ghost use Rattle.plancheck_files.specs.Printed.{picks_in};
 
 use std::io;
 use std::rt::Files;
@@ -90,6 +91,7 @@ fn say_too_long<R: Eprint + Alloc>(rt: &R, name: &[u8]) {
 pub fn put_picks(picks: &mut [u8], bytes: &[u8]) -> usize
     ensures within { result ≤ length picks.new }
     ensures taken { result ≡ length (take result picks.new) }
+    ensures picks { take result picks.new ≡ picks_in (length picks.old) bytes.now }
 {
     if picks.len() < bytes.len() {
         return 0;

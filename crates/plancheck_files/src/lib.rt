@@ -4,20 +4,40 @@
 mod files; // files.rt: files and schedules
 mod names; // names.rt: the words, and the uses
 
+ghost use Rattle.std.specs.Prelude.{OnOk};
+ghost use Rattle.plancheck_words.specs.Given.{given_plan};
+ghost use Rattle.plancheck_words.specs.Words.{Answers};
+ghost use Rattle.text_log_words.specs.Words.{SaysOf};
+ghost use Rattle.plancheck_files.specs.Printed.{Added, picks_in};
+
 use names::Found;
 use plancheck_words::Word;
 use std::io;
+use std::io::Write;
 use std::rt::{Env, Files};
 use text_inputs::numerals;
 use text_log_words::LogWord;
 
-// A word about a plan and a schedule, as they are given.
-fn print_answer(rt: &impl Print, word: Word, plan: &[u8], schedule: &[u8]) -> io::Result<()> {
+// The answer to a word about a plan and a schedule, as they are given.
+pub fn write_answer<W: Write>(
+    writer: &mut W,
+    word: Word,
+    plan: &[u8],
+    schedule: &[u8],
+) -> io::Result<()>
+    ensures { OnOk result (Added (Answers word (picks_in 65536 schedule.now) (given_plan plan.now))
+        (W.contents writer.old) (W.contents writer.new)) }
+{
     let mut picks = files::schedule_area();
     let count = files::put_picks(&mut picks, schedule);
     let mut area = files::text_area();
     let length = plancheck_words::answer(word, plan, &picks[..count], &mut area);
-    rt.write_all(&area[..length])
+    writer.write_all(&area[..length])
+}
+
+// The same on standard output.
+fn print_answer(rt: &impl Print, word: Word, plan: &[u8], schedule: &[u8]) -> io::Result<()> {
+    write_answer(&mut io::writer(rt), word, plan, schedule)
 }
 
 // The schedule is the argument itself where it is digits alone or empty, and else in a file.
@@ -51,11 +71,18 @@ fn with_plan<R: Files + Input + Print + Eprint + Alloc>(
     }
 }
 
-// A word about a log.
-fn print_log(rt: &impl Print, word: LogWord, log: &[u8]) -> io::Result<()> {
+// The answer to a word about a log.
+pub fn write_log_answer<W: Write>(writer: &mut W, word: LogWord, log: &[u8]) -> io::Result<()>
+    ensures { OnOk result (Added (SaysOf word log.now) (W.contents writer.old) (W.contents writer.new)) }
+{
     let mut area = files::picture_area();
     let length = text_log_words::answer(word, log, &mut area);
-    rt.write_all(&area[..length])
+    writer.write_all(&area[..length])
+}
+
+// The same on standard output.
+fn print_log(rt: &impl Print, word: LogWord, log: &[u8]) -> io::Result<()> {
+    write_log_answer(&mut io::writer(rt), word, log)
 }
 
 // The log is in a file, of which the first 12,289 bytes decide the answer.

@@ -120,3 +120,68 @@ pub fn write_file<R: Files + Eprint + Alloc>(rt: &R, name: &[u8], bytes: &[u8]) 
         say_failure(rt, name, error);
     }
 }
+
+#[cfg(test)]
+mod tests {
+    use super::*;
+
+    // A reader of ones that gives a byte at a time, is interrupted before each, and fails or ends after some.
+    #[derive(Drop)]
+    struct Slow {
+        left: usize,
+        interrupts: bool,
+        fails: bool,
+    }
+
+    impl Read for Slow {
+        fn read(&mut self, buf: &mut [u8]) -> io::Result<usize> {
+            self.interrupts = !self.interrupts;
+            if self.interrupts {
+                return Err(io::Error::from(ErrorKind::Interrupted));
+            }
+            if self.left == 0 {
+                if self.fails {
+                    return Err(io::Error::from(ErrorKind::BrokenPipe));
+                }
+                return Ok(0);
+            }
+            if buf.is_empty() {
+                return Ok(0);
+            }
+            buf[0] = 1;
+            self.left -= 1;
+            Ok(1)
+        }
+    }
+
+    fn make_slow(left: usize, fails: bool) -> Slow {
+        Slow {
+            left,
+            interrupts: false,
+            fails,
+        }
+    }
+
+    #[test]
+    fn short_reads_are_joined(rt: HostRuntime) {
+        let mut buffer = [0u8; 5];
+        let read = read_full(&mut make_slow(3, false), &mut buffer);
+        assert_eq!(rt; read.unwrap_or(9), 3);
+        assert_eq!(rt; buffer, [1, 1, 1, 0, 0]);
+    }
+
+    #[test]
+    fn a_full_buffer_is_read_no_further(rt: HostRuntime) {
+        let mut buffer = [0u8; 2];
+        let mut reader = make_slow(2, true);
+        let read = read_full(&mut reader, &mut buffer);
+        assert_eq!(rt; read.unwrap_or(9), 2);
+    }
+
+    #[test]
+    fn a_failed_read_is_told(rt: HostRuntime) {
+        let mut buffer = [0u8; 5];
+        let read = read_full(&mut make_slow(3, true), &mut buffer);
+        assert!(rt; read.is_err());
+    }
+}

@@ -226,10 +226,10 @@ by_plan : (text area : List ℕ) (g : Program) → read_plan (codes_of text) ≡
 unfolding answer_by area_by short_for_plan told_answer
 by_plan text area g e area' told (inl w) =
     let s = lt-ltb (length area) (length (bytes.written g)) w.short in
-    (ap (told_answer text) w.told-is ∙ sym (ap (answer_by text area) e ∙ rw s refl), w.kept ∙ sym (ap (area_by area) e ∙ rw s refl))
+    (ap (told_answer text) w.told_is ∙ sym (ap (answer_by text area) e ∙ rw s refl), w.kept ∙ sym (ap (area_by area) e ∙ rw s refl))
 by_plan text area g e area' told (inr w) =
     let s = le-ltb (length area) (length (bytes.written g)) w.long in
-    (ap (told_answer text) w.told-is ∙ sym (ap (answer_by text area) e ∙ rw s refl), w.bytes ∙ sym (ap (area_by area) e ∙ rw s refl))
+    (ap (told_answer text) w.told_is ∙ sym (ap (answer_by text area) e ∙ rw s refl), w.bytes ∙ sym (ap (area_by area) e ∙ rw s refl))
 
 pub plan_told : (text area area' told : List ℕ) {ts : List ℕ} → ts ≡ codes_of text → TokensPlan ts area area' told
     → (told_answer text told ≡ answer_by text area (read_plan (codes_of text))) × (area' ≡ area_by area (read_plan (codes_of text)))

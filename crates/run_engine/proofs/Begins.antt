@@ -127,4 +127,4 @@ module _ (ws rs : List ℕ) (g : Setting) (m : EngineState) (p : ℕ) where
                 entry = no_entry;
                 forks = false;
               }))) l
-              ∙ steps.goes_on ws rs g x m.stack b begins refocuses room mover other
+              ∙ steps.goes_on_lem ws rs g x m.stack b begins refocuses room mover other

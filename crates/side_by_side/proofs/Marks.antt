@@ -235,7 +235,7 @@ module _ (t : ℕ → Bool) where
       go : Dec (m ≡ length H) → Leads (wanted_after (t (length H)) w r) H k
       go (yes e) =
           let q = pair→port l.paired in
-          wanted (at_older b l.at_i) q.0 (drawn_drawable _ q.0 q.2) q.1
+          wanted (at_older b l.at_i) q.0 (drawn_drawable l.later q.0 q.2) q.1
           (after_drawn (t (length H)) w r q.0 (or← (fed w r) (t (length H)) (inr (rw (← e) x)))
           (along (λ (z : Record). Draws v1 z q.0) (sym (at_newest e l.at_j)) q.2))
       go (no e) = let c : m < length (r ∷ H) = at_below l.at_j in reaches (older (omega arith) l) x
@@ -244,7 +244,7 @@ module _ (t : ℕ → Bool) where
       go : Dec (m ≡ length H) → (m < length H → Leads (wanted_after (t (length H)) w r) H m) → Leads (wanted_after (t (length H)) w r) H k
       go (yes e) ih =
           let q = pair→port l.paired in
-          wanted (at_older b l.at_i) q.0 (drawn_drawable _ q.0 q.2) q.1
+          wanted (at_older b l.at_i) q.0 (drawn_drawable l.later q.0 q.2) q.1
           (after_drawn (t (length H)) w r q.0 (or← (fed w r) (t (length H)) (inl (newest_fed w r H e y)))
           (along (λ (z : Record). Draws v1 z q.0) (sym (at_newest e l.at_j)) q.2))
       go (no e) ih = let c : m < length (r ∷ H) = at_below l.at_j in onward (older (omega arith) l) (ih (omega arith))

@@ -10,7 +10,7 @@ use lib.Dec.{T}
 use lib.ListN.{length, get_elem?, length-reverse}
 use Rattle.format.specs.Version.{Version, v1}
 use Rattle.run_keys.specs.Keys.{singleton}
-use Rattle.plan_packed.specs.Syntax.{Program}
+use Rattle.plan_packed.specs.Syntax.{Expression, Program}
 use Rattle.plan_packed.proofs.WellFormed.{WellFormedProgram}
 use Rattle.log_records.specs.Record.{Kind, Record, entry, is_plain, lacks_key}
 use Rattle.log_order.specs.Pairs.{same_thread}
@@ -22,7 +22,7 @@ use Rattle.log_order.proofs.KeyMachine.{Legal}
 use Rattle.log_order.proofs.AgreeNewest.{agree_newest}
 use Rattle.rules.specs.Context.{Context, Redex, plug, redex_expression}
 use Rattle.rules.specs.State.{Cell, cell, Thread, State, start, lookup}
-use Rattle.rules.specs.Rules.{Rule, is_volatile, E-CALL, E-LET, E-IF, E-WHILE, E-NEW, E-READ, E-WRITE, E-READV, E-WRITEV, E-FORK, E-JOIN, E-RE-ENTER}
+use Rattle.rules.specs.Rules.{Rule, is_volatile, Converts, E-CALL, E-LET, E-IF, E-WHILE, E-NEW, E-READ, E-WRITE, E-READV, E-WRITEV, E-FORK, E-JOIN, E-RE-ENTER}
 use Rattle.rules.specs.Rules.{E-ACQUIRE, E-RELEASE, E-WAIT, E-WAKE, E-NOTIFY, E-NOTIFYALL, Moves, EVAL, EVALᶜ, LACKS-READ, LACKS-WRITE, Lacks, LACKS}
 use Rattle.rules.specs.Step.{around, AttemptOf, Attempt, attempt}
 use Rattle.rules.specs.Room.{Room, no_room_for, PickAnswerOf, PickAnswer, answer, step, within_room}
@@ -98,7 +98,7 @@ split {g} (move {s} {s'} {H} {R} {r} tr p mv l) i w a = go (at_cases a) (λ b. s
       rest = then tr x.rest p mv l;
     }
 
-at_later : {g : Program} {s₀ s : State} {H₀ H : List Record} → Later g s₀ H₀ s H → (i : ℕ) (r : Record) → At H₀ i r → At H i r
+at_later : {g : Program} {s₀ : State} {H₀ : List Record} {s : State} {H : List Record} → Later g s₀ H₀ s H → (i : ℕ) (r : Record) → At H₀ i r → At H i r
 at_later none_yet i r a = a
 at_later (then tr la p mv l) i r a = back (at_later la i r a)
 
@@ -113,24 +113,28 @@ pub record Writing (s : State) (p : ℕ) (w : Record) : Type 0 where
 writing : {g : Program} {s : State} {p : ℕ} {R : Rule} {r : Option Record} {s' : State} → Moves g s p R r s' → (shown p r).kind ≡ Kind.write
     → Writing s p (shown p r)
 unfolding shown redex_expression
-writing (EVAL K {t} ht he (E-CALL os hd hp)) k = absurd (differ k tt)
-writing (EVAL K {t} ht he E-LET) k = absurd (differ k tt)
-writing (EVAL K {t} ht he (E-IF b)) k = absurd (differ k tt)
-writing (EVAL K {t} ht he E-WHILE) k = absurd (differ k tt)
-writing (EVAL K {t} ht he E-NEW) k = absurd (differ k tt)
-writing (EVAL K {t} ht he (E-READ w₀ h v x)) k = absurd (differ k tt)
-writing (EVAL K {t} ht he (E-WRITE w₀ {v = v} h vo x)) k = record { thread = t; there = ht; around = K; next_is = he }
-writing (EVAL K {t} ht he (E-READV h v)) k = absurd (differ k tt)
-writing (EVAL K {t} ht he (E-WRITEV h vo)) k = absurd (differ k tt)
-writing (EVAL K {t} ht he E-FORK) k = absurd (differ k tt)
-writing (EVAL K {t} ht he (E-JOIN h l)) k = absurd (differ k tt)
-writing (EVAL K {t} ht he (E-RE-ENTER h)) k = absurd (differ k tt)
-writing (EVAL K {t} ht he (E-ACQUIRE h n)) k = absurd (differ k tt)
-writing (EVAL K {t} ht he (E-RELEASE h)) k = absurd (differ k tt)
-writing (EVAL K {t} ht he (E-WAIT h)) k = absurd (differ k tt)
-writing (EVAL K {t} ht he (E-WAKE z h n)) k = absurd (differ k tt)
-writing (EVAL K {t} ht he (E-NOTIFY h)) k = absurd (differ k tt)
-writing (EVAL K {t} ht he (E-NOTIFYALL h)) k = absurd (differ k tt)
+writing {g} {s} {p} (EVAL K {t} ht he c) k = go t ht he c k
+  where
+    go : (t : Thread) {e e' : Expression} {R : Rule} {r : Option Record} {s' : State} → get_elem? s.threads p ≡ some t → t.expression ≡ plug K e
+        → Converts g s p t e R r s' e' → (shown p r).kind ≡ Kind.write → Writing s p (shown p r)
+    go t ht he (E-CALL os hd hp) k = absurd (differ k tt)
+    go t ht he E-LET k = absurd (differ k tt)
+    go t ht he (E-IF b) k = absurd (differ k tt)
+    go t ht he E-WHILE k = absurd (differ k tt)
+    go t ht he E-NEW k = absurd (differ k tt)
+    go t ht he (E-READ w₀ h v x) k = absurd (differ k tt)
+    go t ht he (E-WRITE w₀ {v = v} h vo x) k = record { thread = t; there = ht; around = K; next_is = he }
+    go t ht he (E-READV h v) k = absurd (differ k tt)
+    go t ht he (E-WRITEV h vo) k = absurd (differ k tt)
+    go t ht he E-FORK k = absurd (differ k tt)
+    go t ht he (E-JOIN h l) k = absurd (differ k tt)
+    go t ht he (E-RE-ENTER h) k = absurd (differ k tt)
+    go t ht he (E-ACQUIRE h n) k = absurd (differ k tt)
+    go t ht he (E-RELEASE h) k = absurd (differ k tt)
+    go t ht he (E-WAIT h) k = absurd (differ k tt)
+    go t ht he (E-WAKE z h n) k = absurd (differ k tt)
+    go t ht he (E-NOTIFY h) k = absurd (differ k tt)
+    go t ht he (E-NOTIFYALL h) k = absurd (differ k tt)
 writing (EVALᶜ K {t} ht he c) k = absurd (differ k tt)
 
 -- ---- the access that lacks its key

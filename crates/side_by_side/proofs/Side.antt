@@ -49,7 +49,7 @@ pub record Met (g : Program) (S : Marks) (H : List Record) (p q : ℕ) (y x : Re
   pub access_like : LikePart ω x access_part
   pub two : (p ≡ q → ⊥) → writer ≡ other → ⊥
 
-closed_before : (S : Marks) {g : Program} {s₀ s : State} {H₀ H : List Record} → Later g s₀ H₀ s H → Closed S H → Closed S H₀
+closed_before : (S : Marks) {g : Program} {s₀ : State} {H₀ : List Record} {s : State} {H : List Record} → Later g s₀ H₀ s H → Closed S H → Closed S H₀
 closed_before S none_yet cl = cl
 closed_before S (then {H = H} {r = r} tr la p mv l) cl = closed_before S la (closed_older S (shown p r) H cl)
 

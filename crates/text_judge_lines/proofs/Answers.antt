@@ -37,7 +37,7 @@ module _ {v : Version} (b : List ℕ) (j i : ℕ) (w x : Columns) (L : LastOf v 
       let l = c.before in
       let other : record_at b i ≡ c.other = at_once (log_of b) i (record_here b i (omega (arith, L.index_is)))
       (along (λ (n : ℕ). At (log_of b) n c.other) L.index_is c.at_index) in
-      let access : record_at b j ≡ c.access = at_once (log_of b) j (record_here b j h) c.at-j in
+      let access : record_at b j ≡ c.access = at_once (log_of b) j (record_here b j h) c.at_j in
       ap (λ (y : Record). conflict_lines i y j (record_of x)) (columns_are W ∙ other)
       ∙ ap (λ (y : Record). conflict_lines i c.other j y) (columns_are X ∙ access)
       ∙ ap (λ (n : ℕ). conflict_lines n c.other j c.access) (sym L.index_is)

@@ -30,6 +30,7 @@ use Rattle.text_judge_lines.specs.Inner.Search.{conflict_test, Named, LastOf}
 
 holds : (x : Bool) → T x → x ≡ true
 holds true t = refl
+holds false t = elim t [ ]
 
 held : (x : Bool) → x ≡ true → T x
 held true e = tt

@@ -23,7 +23,6 @@ module _ (k : ℕ) (h : k ≤ 8) where
   small : (1 * 2 ^ k) % 2 ^ 64 - 1 < 256
   small = rw (shl_one k (omega arith)) (omega (arith, pow_mono {i = k} {j = 8} h))
 
-
 pub loop-procedure-init : goal.loop-procedure-init
 loop-procedure-init c = (search rules, rw c.requires.scopes_value (no_roots c.args.plan.now))
 

@@ -22,7 +22,6 @@ module _ (m w k s : ℕ) (e : k ≡ 5) (f : s ≡ slot_bits w) where
   unfolding inner_scope with_slot
   binds v q n h = rw (eq-eqb k 5 e, ← f, ne_eqb s 15 n, shl_one s h, q)
 
-
 pub returns-then-tag-ne-LET : goal.returns-then-tag-ne-LET
 unfolding inner_scope
 returns-then-tag-ne-LET c = simp (ne_eqb _ _ c.if-tag-ne-LET.true)

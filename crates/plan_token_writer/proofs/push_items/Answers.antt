@@ -19,7 +19,7 @@ number-number-requires c = record { rows_value = c.requires.0; row_bound = (c.re
 pub push-next-requires : goal.push-next-requires
 push-next-requires c =
     let l = c.loop-left in
-    let n = items_length c.args.word c.args.row (2 + l.false) (row_number c.args.row 1 - l.false) in
+    let n = items_length c.args.word c.args.row (2 + l.left) (row_number c.args.row 1 - l.left) in
     (omega (arith, few_items _ c.requires.1, c.requires.2, l.invariant.0, l.invariant.1.top, l.invariant.1.kept, n), c.item.ensures.1)
 
 pub loop-left-preserved : goal.loop-left-preserved
@@ -35,4 +35,4 @@ pub shape_of-stack : goal.shape_of-stack
 shape_of-stack c = c.loop-left.invariant.1.kept
 
 pub returns : goal.returns
-returns c = let l = c.loop-left in pushed_as (items_whole _ _ l.false _ (omega arith)) l.invariant.1
+returns c = let l = c.loop-left in pushed_as (items_whole _ _ l.left _ (omega arith)) l.invariant.1

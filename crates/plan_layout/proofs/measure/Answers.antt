@@ -1,0 +1,148 @@
+use Prim.Native.Nat.{ℕ, ◌+◌, ◌-◌, ◌*◌, ◌%◌, ◌≤◌, ◌<◌}
+use native.Mathlib.Nat.{zero-add}
+use native.Mathlib.Omega.{arith}
+use mathlib.Core.Path.{◌≡◌, refl, sym, ap, ◌∙◌}
+use mathlib.Core.List.{List, [], ◌∷◌, ◌++◌}
+use lib.ListN.{length, length-set, get_or, drop}
+use borrow.Author.Rules.{rules}
+use Rattle.plan_notation.specs.Tokens.{text_end}
+use Rattle.plan_notation.specs.Layout.{Pen, laid_from, laid_out}
+use Rattle.plan_notation.proofs.Widths.{few_bytes}
+use Rattle.plan_pen.specs.declared.Gap.{Gap}
+use Rattle.plan_pen.specs.Inner.Pens.{pen_of}
+use Rattle.plan_pen.proofs.PenLaws.{next_column, next_depth, next_last}
+use Rattle.plan_layout.specs.Inner.Marks.{text_to}
+use Rattle.plan_layout.proofs.LaidLaws.{gap_short, laid_length, laid_on, laid_none}
+use Rattle.plan_layout.proofs.MarkLaws.{text_more, few_more}
+use Rattle.plan_layout.proofs.measure.Invariants.{Marking}
+use Rattle.plan_layout.proofs.measure.Goals as goal
+use Rattle.plan_layout.proofs.measure.Goals.{After-length_of}
+
+-- a token takes at most 50 bytes
+few_of : (c : After-length_of) → c.length_of.result + c.width-width.result ≤ 50
+few_of c =
+    omega (
+      arith,
+      c.length_of.ensures,
+      gap_short c.gap_before-gap.result c.gap_before-gap.ensures.few,
+      c.width-width.ensures,
+      few_bytes _ (c.requires.rows_value.2
+          c.loop-index.index),
+    )
+
+pub loop-index-init : goal.loop-index-init
+unfolding laid_out text_to
+loop-index-init c =
+    let e = c.start-pen.ensures in (
+      omega arith,
+      omega arith,
+      omega (arith, ap (λ (p : Pen). p.column) e),
+      omega (arith, ap (λ (p : Pen). p.depth) e),
+      rw zero-add (ap (λ (p : Pen). length (laid_from p c.args.tokens.now)) e),
+      record { kept = refl; text = sym (ap (λ (p : Pen). laid_from p c.args.tokens.now) e); few = λ k l. absurd (omega arith) },
+      omega (arith, ap (λ (p : Pen). p.last) e),
+    )
+
+pub width-width-requires : goal.width-width-requires
+width-width-requires c = record {
+  rows_value = c.requires.rows_value.0;
+  token_lt_text_end = c.requires.rows_value.2
+      c.loop-index.index;
+}
+
+pub gap_before-gap-requires : goal.gap_before-gap-requires
+gap_before-gap-requires c =
+    let l = c.loop-index in
+    let k = c.requires.rows_value.2 l.index in record { looks_value = (c.requires.rows_value.1, k, l.invariant.6); width_value = (c.width-width.ensures, omega (arith, c.width-width.ensures, few_bytes _ k), l.invariant.2) }
+
+pub mark-requires : goal.mark-requires
+mark-requires c = c.gap_before-gap.ensures.few
+
+pub offset_bounds-marks-index : goal.offset_bounds-marks-index
+offset_bounds-marks-index c = record {
+  fits = omega (
+    arith,
+    c.loop-index-test.true,
+    c.requires.tokens_len_bound.0,
+  );
+}
+
+pub bounds-marks-index : goal.bounds-marks-index
+bounds-marks-index c = let l = c.loop-index in omega (
+  arith,
+  c.loop-index-test.true,
+  l.invariant.5.kept,
+  c.requires.tokens_len_bound.1,
+)
+
+pub length_of-requires : goal.length_of-requires
+length_of-requires c = c.gap_before-gap.ensures.few
+
+pub overflow_add-total : goal.overflow_add-total
+overflow_add-total c = record { fits = omega (arith, few_of c) }
+
+pub overflow_add-total-in-loop-index : goal.overflow_add-total-in-loop-index
+overflow_add-total-in-loop-index c = let l = c.loop-index in record {
+  fits = omega
+      (arith, few_of c, l.invariant.0, l.invariant.1, c.requires.tokens_len_bound.0);
+}
+
+pub after-pen-requires : goal.after-pen-requires
+after-pen-requires c =
+    let l = c.loop-index in
+    let k = c.requires.rows_value.2 l.index in record {
+      looks_value = (c.requires.rows_value.1, k);
+      width_value = (
+        c.width-width.ensures,
+        omega (arith, c.width-width.ensures, few_bytes _ k),
+        l.invariant.2,
+        omega (arith, l.invariant.3, c.loop-index-test.true, c.requires.tokens_len_bound.0),
+      );
+      parts = c.gap_before-gap.ensures;
+    }
+
+pub loop-index-preserved : goal.loop-index-preserved
+loop-index-preserved c =
+    let l = c.loop-index in
+    let t = c.loop-index-test.true in
+    let ts = c.args.tokens.now in
+    let g = c.gap_before-gap in
+    let m = c.mark in
+    let e = c.after-pen.ensures in
+    let n = laid_length ts l.index (pen_of l.pen) t g.result g.ensures (pen_of c.after-pen.result) e in
+    let o = l.invariant.5 in
+    let inside : l.index < length l.marks = omega (arith, t, o.kept, c.requires.tokens_len_bound.1) in (
+      omega (arith, t),
+      omega (arith, few_of (goal.at.loop-index-preserved c).After-length_of, l.invariant.1),
+      next_column _ _ _ e (c.requires.rows_value.2 l.index),
+      omega (arith, l.invariant.3, next_depth _ _ _ e),
+      omega (arith, l.invariant.4, n, c.length_of.ensures, c.width-width.ensures),
+      record {
+        kept = length-set l.marks l.index m.result ∙ o.kept;
+        text = laid_on ts l.index (pen_of l.pen) t g.result g.ensures (pen_of c.after-pen.result) e _ (text_to ts l.marks l.index) o.text
+            ∙ ap (λ (xs : List ℕ). xs ++ laid_from (pen_of c.after-pen.result) (drop (l.index + 1) ts))
+            (sym (text_more ts l.marks l.index m.result g.result inside m.ensures));
+        few = few_more l.marks l.index m.result inside (rw (ap (λ (x : Gap). x.spaces) m.ensures) g.ensures.few) o.few;
+      },
+      next_last _ _ _ e (c.requires.rows_value.2 l.index),
+    )
+
+pub overflow_add-result : goal.overflow_add-result
+overflow_add-result c = let l = c.loop-index in record { fits = omega (arith, l.invariant.0, l.invariant.1, c.requires.tokens_len_bound.0) }
+
+pub shape_of-marks : goal.shape_of-marks
+shape_of-marks c = c.loop-index.invariant.5.kept
+
+pub returns : goal.returns
+returns c =
+    let l = c.loop-index in
+    let ts = c.args.tokens.now in
+    let none = laid_none ts l.index (pen_of l.pen) c.loop-index-test.false in
+    let whole : l.index ≡ length ts = omega (arith, l.invariant.0, c.loop-index-test.false) in
+    let o = l.invariant.5 in (
+      omega (arith, l.invariant.4, ap length none),
+      record {
+        text = o.text ∙ ap (λ (xs : List ℕ). text_to ts l.marks l.index ++ xs) none ∙ ap (λ (n : ℕ). text_to ts l.marks n ++ (10 ∷ [])) whole;
+        few = λ k h. o.few k (omega (arith, whole));
+      },
+    )

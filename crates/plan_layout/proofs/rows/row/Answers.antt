@@ -1,0 +1,14 @@
+-- `rows::row` meets its contract. Assumes nothing.
+use Prim.Native.Nat.{ℕ}
+use mathlib.Core.Path.{ap, ◌∙◌}
+use mathlib.Core.List.{List, []}
+use lib.ListN.{get_or}
+use borrow.Author.Rules.{rules}
+use Rattle.plan_layout.proofs.RowLaws.{row_is}
+use Rattle.plan_layout.proofs.rows.row.Goals as goal
+
+pub returns : goal.returns
+returns c =
+    ap (λ (k : ℕ). get_or c.args.rows.now k []) c.wide.ensures.0
+    ∙ ap (λ (l : List (List ℕ)). get_or l c.args.token []) c.requires.rows_value
+    ∙ row_is c.args.token c.requires.token_lt_text_end

@@ -1,0 +1,6 @@
+-- `forked_way` meets its contract. Assumes nothing.
+use borrow.Author.Rules.{rules}
+use Rattle.run_pick.proofs.forked_way.Goals as goal
+
+pub returns : goal.returns
+returns c = simp (c.remainder.ensures, c.run-from.ensures)

@@ -1,0 +1,32 @@
+-- `text_diagram::links::put_race` meets its contract. Assumes nothing.
+use native.Mathlib.Omega.{arith}
+use Rattle.log_records.specs.Packed.{log_of}
+use Rattle.text.specs.Text.{ascii}
+use Rattle.text_diagram_elements.proofs.Together.{drawn_none, drawn_as}
+use Rattle.text_diagram_elements.proofs.Races.{race_line, no_race}
+use borrow.Author.Rules.{rules}
+use Rattle.text_diagram_links.proofs.put_race.Goals as goal
+
+pub put_between-requires : goal.put_between-requires
+put_between-requires c =
+    let k = c.race-1.given in
+    let p = c.requires in (
+      record {
+        few = p.0;
+        first_inside = p.1.write_inside k.0.0 k.0.1.0 k.1;
+        second_inside = p.1.access_inside k.0.0 k.0.1.0 k.1;
+      },
+      omega (arith, p.2),
+    )
+
+pub returns-in-Between : goal.returns-in-Between
+unfolding ascii
+returns-in-Between c =
+    let k = c.race-1.given in
+    drawn_as (race_line c.args.race k.0.0 k.0.1.0 k.1
+    (log_of c.args.log.now)) c.put_between.ensures
+
+pub returns-in-Nowhere : goal.returns-in-Nowhere
+returns-in-Nowhere c = drawn_as
+    (no_race c.args.race (log_of c.args.log.now) c.in-Nowhere.is)
+    (drawn_none _ _ _)
