@@ -32,15 +32,15 @@ loop-index-preserved c =
     ⊎_elim (λ w.
     writing_as w.area-is w.numbers-is w.next-is w.at-is (
       writing_fork l.invariant.0 less w.columns_at-columns.ensures w.if-kept-index.true c.requires.room c.requires.small (l.index + 1) (l.at + 1) (l.next + 1) next_index
-          (omega arith) (omega arith) (eq-eqb _ 8 w.3.true),
+          (omega arith) (omega arith) (eq-eqb _ 8 w.if-columns-eq-FORK.true),
       length-set l.area l.at _ ∙ l.invariant.1,
     )) (λ w. ⊎_elim (λ w.
-    writing_as w.4 w.5 w.6 w.7 (
-      writing_pick l.invariant.0 less w.1.ensures w.0.true c.requires.room c.requires.small (l.index + 1) (l.at + 1) next_index (omega arith)
-          (ne_eqb _ 8 w.3.false),
+    writing_as w.area-is w.numbers-is w.next-is w.at-is (
+      writing_pick l.invariant.0 less w.columns_at-columns.ensures w.if-kept-index.true c.requires.room c.requires.small (l.index + 1) (l.at + 1) next_index (omega arith)
+          (ne_eqb _ 8 w.if-columns-eq-FORK.false),
       length-set l.area l.at _ ∙ l.invariant.1,
     )) (λ w.
-    writing_as w.1 w.2 w.3 w.4 (writing_skip l.invariant.0 less (l.index + 1) next_index w.0.false, l.invariant.1)) w) c.if-kept-index.branch-raw
+    writing_as w.area-is w.numbers-is w.next-is w.at-is (writing_skip l.invariant.0 less (l.index + 1) next_index w.if-kept-index.false, l.invariant.1)) w) c.if-kept-index.branch-raw
 
 pub shape_of-area : goal.shape_of-area
 shape_of-area c = c.loop-index.invariant.1

@@ -4,4 +4,5 @@ use Rattle.std.specs.Io.KnownBytes.{Consumes}
 use Rattle.program_files.proofs.read_full.Given as goal
 
 abbrev pub invariant-loop : goal.invariant-loop
-invariant-loop g l = (length l.buffer ≡ length l.initial.buffer) × (l.done ≤ length l.buffer) × Consumes (g.R.Read.remaining l.initial.reader) (g.R.Read.remaining l.reader) (take l.done l.buffer)
+invariant-loop g l = (length l.buffer ≡ length l.initial.buffer) × (l.done ≤ length l.buffer)
+    × Consumes (g.R.Read.remaining l.initial.reader) (g.R.Read.remaining l.reader) (take l.done l.buffer)

@@ -1,5 +1,6 @@
 -- `write_shot_list` meets its contract: what is read decides as the whole input does. Assumes nothing.
-use Rattle.std.proofs.Common.{rules, arith, ◌≡◌, ℕ, ◌<◌, ◌≤◌, List, [], ◌++◌, length, take, length-take, length-take-le, take_all, sym, ap, ◌∙◌, Option, Some, None, Result, Ok, Err}
+use Rattle.std.proofs.Common.{rules, arith, ◌≡◌, ℕ, ◌<◌, ◌≤◌, List, [], ◌++◌, length, take, length-take, length-take-le, take_all}
+use Rattle.std.proofs.Common.{sym, ap, ◌∙◌, Option, Some, None, Result, Ok, Err}
 use Rattle.std.proofs.Math.Logic.{◌⊎◌, inl, inr}
 use Rattle.std.proofs.lemmas.Bool.{cases_lt}
 use Rattle.std.proofs.lemmas.List.{append-nil, take-append-le}
@@ -21,7 +22,8 @@ decides : (size n : ℕ) (buffer : List ℕ) (known left : Option (List ℕ)) �
 decides size n buffer None left full fits consumed end = tt
 decides size n buffer (Some input) None full fits consumed end = absurd consumed
 decides size n buffer (Some input) (Some rest) full fits consumed end =
-    ap (take size) consumed ∙ begins size n (take n buffer) rest (length-take-le n buffer fits) (omega (arith, full, fits)) (λ short. end (omega (arith, full, short)))
+    ap (take size) consumed ∙ begins size n (take n buffer) rest (length-take-le n buffer fits) (omega (arith, full, fits))
+    (λ short. end (omega (arith, full, short)))
 
 -- what holds of each input that the reader may have had holds of the one that it had
 of_known : {T E : Type 0} → (r : Result T E) (known : Option (List ℕ)) (P A : List ℕ → Type 0) → IfSome known P

@@ -22,14 +22,17 @@ start text before after r h room =
 
 pub slice_bounds-text-end : goal.slice_bounds-text-end
 slice_bounds-text-end g c =
-    within _ _ _ _ (c.shot_list_read-length.ensures (take c.args.size c.args.buffer.now) (whole c.args.size c.args.buffer.now (search rules))) (search rules)
+    within _ _ _ _ (c.shot_list_read-length.ensures (take c.args.size c.args.buffer.now)
+    (whole c.args.size c.args.buffer.now (search rules))) (search rules)
 
 pub slice_bounds-write_all-end : goal.slice_bounds-write_all-end
 slice_bounds-write_all-end g c =
-    let h = within _ _ _ _ (c.shot_list_read-length.ensures (take c.args.size c.args.buffer.now) (whole c.args.size c.args.buffer.now (search rules))) (search rules) in
+    let h = within _ _ _ _ (c.shot_list_read-length.ensures (take c.args.size c.args.buffer.now)
+    (whole c.args.size c.args.buffer.now (search rules))) (search rules) in
     grind (arith, length-take, h)
 
 pub returns : goal.returns
 returns g c input e =
     let begins = start _ _ _ _ (c.shot_list_read-length.ensures input e) (search rules) in
-    subst (λ (bytes : List ℕ). OnOk c.write_all.result (Appends (g.W.Write.contents c.args.writer.now) (g.W.Write.contents c.write_all.new.self) bytes)) begins c.write_all.ensures.bytes
+    subst (λ (bytes : List ℕ). OnOk c.write_all.result (Appends (g.W.Write.contents c.args.writer.now) (g.W.Write.contents c.write_all.new.self) bytes))
+    begins c.write_all.ensures.bytes

@@ -9,12 +9,11 @@ use Rattle.text_diagram_links.proofs.put_race.Goals as goal
 
 pub put_between-requires : goal.put_between-requires
 put_between-requires c =
-    let k = c.race-1.given in
     let p = c.requires in (
       record {
         few = p.0;
-        first_inside = p.1.write_inside k.0.0 k.0.1.0 k.1;
-        second_inside = p.1.access_inside k.0.0 k.0.1.0 k.1;
+        first_inside = p.1.write_inside c.in-Between.write c.in-Between.access c.in-Between.is;
+        second_inside = p.1.access_inside c.in-Between.write c.in-Between.access c.in-Between.is;
       },
       omega (arith, p.2),
     )
@@ -22,8 +21,7 @@ put_between-requires c =
 pub returns-in-Between : goal.returns-in-Between
 unfolding ascii
 returns-in-Between c =
-    let k = c.race-1.given in
-    drawn_as (race_line c.args.race k.0.0 k.0.1.0 k.1
+    drawn_as (race_line c.args.race c.in-Between.write c.in-Between.access c.in-Between.is
     (log_of c.args.log.now)) c.put_between.ensures
 
 pub returns-in-Nowhere : goal.returns-in-Nowhere

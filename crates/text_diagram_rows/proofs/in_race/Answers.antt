@@ -4,9 +4,9 @@ use borrow.Author.Rules.{rules}
 use Rattle.text_diagram_rows.proofs.in_race.Goals as goal
 
 pub returns-then-index-write : goal.returns-then-index-write
-returns-then-index-write c = let k = c.race-1.given in is_write_lem c.args.race k.0.0 k.0.1.0 k.1
+returns-then-index-write c = is_write_lem c.args.race c.in-Between.write c.in-Between.access c.in-Between.is
     c.args.index c.if-index-write.true
 
 pub returns-else-index-write : goal.returns-else-index-write
-returns-else-index-write c = let k = c.race-1.given in is_access_lem c.args.race k.0.0 k.0.1.0 k.1
+returns-else-index-write c = is_access_lem c.args.race c.in-Between.write c.in-Between.access c.in-Between.is
     c.args.index c.if-index-write.false

@@ -10,23 +10,17 @@ use Rattle.text_plan_words.proofs.check_text.Goals as goal
 
 pub put_refusal_lines-requires : goal.put_refusal_lines-requires
 put_refusal_lines-requires c =
-    let checked = c.checked-1 in
-    let k = checked.given.0 in
-    omega (arith, lines_short (record { number = k.0; place = k.1.0 }) (omega arith) (omega arith))
+    omega (arith, lines_short (record { number = c.in-Refused.number; place = c.in-Refused.place }) (omega arith) (omega arith))
 
 pub returns-in-Refused : goal.returns-in-Refused
 unfolding check_text
 returns-in-Refused c =
-    let put-refusal-lines = c.put_refusal_lines in
-    let checked = c.checked-1 in
     let check = c.check-checked in
-    let k = checked.given in
-    added_as (check_refused _ _ check.result check.ensures k.0.0 k.0.1.0 k.1) put-refusal-lines.ensures
+    added_as (check_refused _ _ check.result check.ensures c.in-Refused.number c.in-Refused.place c.in-Refused.is) c.put_refusal_lines.ensures
 
 pub returns-in-Passed : goal.returns-in-Passed
 unfolding check_text ascii
 returns-in-Passed c =
     let put_word = c.put_word in
-    let enum_told = c.enum_told-1 in
     let check = c.check-checked in
-    added_as (check_passed _ _ check.result check.ensures enum_told.given.1) put_word.ensures
+    added_as (check_passed _ _ check.result check.ensures c.in-Passed.is) put_word.ensures

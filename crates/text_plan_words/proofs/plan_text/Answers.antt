@@ -10,33 +10,26 @@ use Rattle.text_plan_words.proofs.plan_text.Goals as goal
 
 pub put_refusal_lines-requires : goal.put_refusal_lines-requires
 put_refusal_lines-requires c =
-    let checked = c.checked-1 in
-    let k = checked.given.0 in
-    omega (arith, lines_short (record { number = k.0; place = k.1.0 }) (omega arith) (omega arith))
+    omega (arith, lines_short (record { number = c.in-Refused.number; place = c.in-Refused.place }) (omega arith) (omega arith))
 
 pub put_word-requires : goal.put_word-requires
 put_word-requires c =
-    let enum_told = c.enum_told-1 in
     let check = c.check-checked in
     let a = c.args in
-    let passed = check_none a.plan.now _ check.result check.ensures enum_told.given.1 in
+    let passed = check_none a.plan.now _ check.result check.ensures c.in-Passed.is in
     omega (arith, plan_few a.plan.now passed)
 
 pub returns-in-Refused : goal.returns-in-Refused
 unfolding plan_text
 returns-in-Refused c =
-    let put-refusal-lines = c.put_refusal_lines in
-    let checked = c.checked-1 in
     let check = c.check-checked in
     let a = c.args in
-    let k = checked.given in
-    added_as (check_refused a.plan.now _ check.result check.ensures k.0.0 k.0.1.0 k.1) put-refusal-lines.ensures
+    added_as (check_refused a.plan.now _ check.result check.ensures c.in-Refused.number c.in-Refused.place c.in-Refused.is) c.put_refusal_lines.ensures
 
 pub returns-in-Passed : goal.returns-in-Passed
 unfolding plan_text
 returns-in-Passed c =
     let put_word = c.put_word in
-    let enum_told = c.enum_told-1 in
     let check = c.check-checked in
     let a = c.args in
-    added_as (check_passed a.plan.now _ check.result check.ensures enum_told.given.1) put_word.ensures
+    added_as (check_passed a.plan.now _ check.result check.ensures c.in-Passed.is) put_word.ensures

@@ -26,7 +26,7 @@ returns-then-not-is_digit c =
     let loop-test = c.loop-index-test in
     let loop = c.loop-index in
     let a = c.args in
-    let e = not-true _ if1.true in
+    let e = if1.true in
     let some = lt-ltb 0 (length a.bytes.now) (omega (arith, loop-test.true)) in
     let fails = every_fails is_digit a.bytes.now loop.index loop-test.true (sym is_digit_lem.ensures ∙ e) in
     simp (some, fails)
@@ -38,7 +38,7 @@ loop-index-preserved c =
     let loop-test = c.loop-index-test in
     let loop = c.loop-index in
     let a = c.args in
-    let e = not-false _ if1.false in
+    let e = if1.false in
     (search rules, rw add-one (every_more is_digit a.bytes.now loop.index loop-test.true loop.invariant.1 (sym is_digit_lem.ensures ∙ e)))
 
 pub returns : goal.returns

@@ -26,7 +26,7 @@ returns-then-not-is_digit_or_blank c =
     let loop-test = c.loop-index-test in
     let loop = c.loop-index in
     let a = c.args in
-    let e = not-true _ if1.true in
+    let e = if1.true in
     sym (every_fails passes a.bytes.now loop.index loop-test.true (sym is-digit-or-blank.ensures ∙ e))
 
 pub loop-index-preserved : goal.loop-index-preserved
@@ -36,7 +36,7 @@ loop-index-preserved c =
     let loop-test = c.loop-index-test in
     let loop = c.loop-index in
     let a = c.args in
-    let e = not-false _ if1.false in
+    let e = if1.false in
     (search rules, rw add-one (every_more passes a.bytes.now loop.index loop-test.true loop.invariant.1 (sym is-digit-or-blank.ensures ∙ e)))
 
 pub returns : goal.returns
