@@ -1,2 +1,0 @@
-pub mod Charge
-pub mod Figures

@@ -1,4 +1,0 @@
-pub mod GoingOn
-pub mod GoingBack
-pub mod Answers
-pub mod Counting

@@ -1,2 +1,0 @@
-pub mod Standing
-pub mod InWords

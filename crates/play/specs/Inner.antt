@@ -1,3 +1,0 @@
--- What only inner contracts speak of: no reader of the entries' promises needs it. Assumes nothing.
-pub mod Roots
-pub mod RunOn

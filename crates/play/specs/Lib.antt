@@ -1,3 +1,0 @@
-pub mod Answer
-pub mod ExecutedOn
-pub mod Inner

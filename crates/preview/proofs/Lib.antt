@@ -1,4 +1,0 @@
-pub mod PlaysAs
-pub mod Examples
-pub mod Found
-pub mod Entry

@@ -1,5 +1,0 @@
-pub mod Preview
-pub mod PlaysAs
-pub mod Examples
-pub mod Answer
-pub mod Inner

@@ -1,4 +1,0 @@
-pub mod Lengths
-pub mod Raced
-pub mod Answers
-pub mod OneText

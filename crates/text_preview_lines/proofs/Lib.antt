@@ -1,4 +1,0 @@
-pub mod StopWords
-pub mod LineParts
-pub mod Answers
-pub mod Samples

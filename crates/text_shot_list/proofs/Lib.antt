@@ -1,4 +1,0 @@
-pub mod Answers
-pub mod Inputs
-pub mod FirstBytes
-pub mod PrintedP

@@ -1,4 +1,0 @@
-pub mod LineParts
-pub mod ThreadTexts
-pub mod Answers
-pub mod Samples

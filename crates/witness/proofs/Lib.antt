@@ -1,4 +1,0 @@
-pub mod Refusals
-pub mod Moves
-pub mod Once
-pub mod Running
