@@ -98,7 +98,7 @@ def from_libraries(code):
     return out
 
 
-def turned(code, rows, stay, fields=(), within=()):
+def turned(code, rows, stay, fields=(), within=(), begin=0):
     """The code with its words turned. A word in snake case that gives way to a definition may be a function's too, and turns only behind no dot. A field, behind
     a dot, in a record's literal or in the record, has its plain spelling."""
 
@@ -108,7 +108,7 @@ def turned(code, rows, stay, fields=(), within=()):
             return word
         dotted = code[m.start() - 1 : m.start()] == "."
         literal = re.search(r"[{;]\s*$", code[: m.start()][-40:]) and code[m.end() : m.end() + 2] == " ="
-        if word in fields and (dotted or literal) or any(a <= m.start() < b and word in names for a, b, names in within):
+        if word in fields and (dotted or literal) or any(a <= begin + m.start() < b and word in names for a, b, names in within):
             return spelled(word) if turns(word) else word
         if dotted and "-" not in word and word.islower():
             return word
@@ -120,9 +120,9 @@ def turned(code, rows, stay, fields=(), within=()):
 def outside(pattern, text, turn, inside):
     out, at = [], 0
     for m in pattern.finditer(text):
-        out += [turn(text[at : m.start()]), inside(m[0])]
+        out += [turn(text[at : m.start()], at), inside(m[0])]
         at = m.end()
-    return "".join(out + [turn(text[at:])])
+    return "".join(out + [turn(text[at:], at)])
 
 
 def modules(text):
@@ -151,7 +151,8 @@ def main(top):
                 new = rows.get(word)
                 if new and new in there and new not in rows:
                     print("met:", os.path.relpath(path, top), word, new)
-            text = outside(quiet, text, lambda s: turned(s, rows, stay, fields, list(in_records(s))), lambda q: q if q[0] == '"' else spans(q))
+            within = list(in_records(quiet.sub(lambda m: " " * len(m[0]), text)))
+            text = outside(quiet, text, lambda s, at: turned(s, rows, stay, fields, within, at), lambda q: q if q[0] == '"' else spans(q))
         text = modules(text)
         if text != old:
             with open(path, "w", encoding="utf-8") as f:
