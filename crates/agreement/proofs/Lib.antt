@@ -1,0 +1,5 @@
+pub mod LastRecord
+pub mod Agreed
+pub mod Entry
+pub mod Marked
+pub mod Versions

@@ -1,0 +1,4 @@
+pub mod GoingOn
+pub mod GoingBack
+pub mod Answers
+pub mod Counting

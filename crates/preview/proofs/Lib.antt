@@ -1,0 +1,4 @@
+pub mod PlaysAs
+pub mod Examples
+pub mod Found
+pub mod Entry

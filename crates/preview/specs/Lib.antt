@@ -1,0 +1,5 @@
+pub mod Preview
+pub mod PlaysAs
+pub mod Examples
+pub mod Answer
+pub mod Inner

@@ -1,0 +1,11 @@
+pub mod Looks
+pub mod Plays
+pub mod PassedOver
+pub mod Restored
+pub mod MovedCell
+pub mod AllPicks
+pub mod Standing
+pub mod Rounds
+pub mod Halts
+pub mod Begins
+pub mod FirstLists

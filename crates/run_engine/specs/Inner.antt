@@ -1,0 +1,4 @@
+-- What only inner contracts speak of: no reader of the entries' promises needs it. Assumes nothing.
+pub mod Kept
+pub mod Engine
+pub mod Exploring

@@ -1,0 +1,11 @@
+pub mod Refusals
+pub mod Judged
+pub mod Statuses
+pub mod Outcomes
+pub mod Played
+pub mod Previewed
+pub mod Interleavings
+pub mod Witnessed
+pub mod Tools
+pub mod Shown
+pub mod ReadAnswers

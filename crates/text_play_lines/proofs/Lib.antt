@@ -1,0 +1,4 @@
+pub mod Lengths
+pub mod Raced
+pub mod Answers
+pub mod OneText

@@ -1,0 +1,4 @@
+pub mod StopWords
+pub mod LineParts
+pub mod Answers
+pub mod Samples

@@ -1,0 +1,4 @@
+pub mod Answers
+pub mod Inputs
+pub mod FirstBytes
+pub mod PrintedP

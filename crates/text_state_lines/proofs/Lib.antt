@@ -1,0 +1,4 @@
+pub mod LineParts
+pub mod ThreadTexts
+pub mod Answers
+pub mod Samples

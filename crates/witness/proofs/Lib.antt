@@ -1,0 +1,4 @@
+pub mod Refusals
+pub mod Moves
+pub mod Once
+pub mod Running
