@@ -83,7 +83,7 @@ pub fn picture_area() -> [u8; 2680576] {
 }
 
 // A file that fills its buffer is not taken.
-fn say_too_long<R: Eprint + Alloc>(rt: &R, name: &[u8]) {
+pub fn say_too_long<R: Eprint + Alloc>(rt: &R, name: &[u8]) {
     program_files::say(rt, name, "too long");
 }
 
