@@ -12,7 +12,6 @@ ghost use Rattle.play.specs.Inner.RunOn.{Given, RunBy, Notable, ExploredBy};
 
 use crate::outcome::Played;
 use plan_header::layout;
-use plan_refusals::Checked;
 use run_engine::Explored;
 use run_state::Setting;
 use run_tally::Ran;
@@ -76,7 +75,7 @@ pub fn play(plan: &[u8], schedule: &[u8], log: &mut [u8]) -> Played
 {
     let mut words = [0usize; 1024];
     let checked = run_refusals::refusal(plan, schedule, log.len(), &mut words);
-    let Checked::Passed = checked else {
+    let Ok(()) = checked else {
         return outcome::refused(checked);
     };
     let ran = run(plan, &words, false, schedule, log);

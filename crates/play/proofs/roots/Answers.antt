@@ -1,10 +1,9 @@
 use mathlib.Core.Path.{◌≡◌, refl, ◌∙◌}
-use Prim.Native.Nat.{ℕ, ◌-◌, ◌<◌, ◌≤◌}
+use Prim.Native.Nat.{ℕ, ◌<◌}
 use native.Mathlib.Omega.{arith}
 use lib.ListN.{length, length-set}
 use borrow.Author.Rules.{rules}
 use Rattle.plan_packed.specs.Format.{root}
-use Rattle.play.specs.Inner.Roots.{Roots}
 use Rattle.format.proofs.Filled.{filled}
 use Rattle.play.proofs.roots.Goals as goal
 

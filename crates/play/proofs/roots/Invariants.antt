@@ -1,12 +1,8 @@
 -- `roots` meets its contract. Assumes nothing.
-use mathlib.Core.Path.{◌≡◌, refl, ◌∙◌}
-use Prim.Native.Nat.{ℕ, ◌-◌, ◌<◌, ◌≤◌}
-use native.Mathlib.Omega.{arith}
-use lib.ListN.{length, length-set}
-use borrow.Author.Rules.{rules}
-use Rattle.plan_packed.specs.Format.{root}
+use mathlib.Core.Path.{◌≡◌}
+use Prim.Native.Nat.{◌-◌, ◌≤◌}
+use lib.ListN.{length}
 use Rattle.play.specs.Inner.Roots.{Roots}
-use Rattle.format.proofs.Filled.{filled}
 use Rattle.play.proofs.roots.Given as goal
 
 abbrev pub invariant-loop-procedure : goal.invariant-loop-procedure
