@@ -8,8 +8,8 @@ ghost use Rattle.answers.specs.Answer.{answered};
 ghost use Rattle.log_schedule_writer.specs.Inner.Kept.{flagged, count_kept, Small, picks_in};
 ghost use Rattle.log_schedule_writer.specs.Inner.WritesFrom.{RacedIn, WritesFrom};
 
-use answers::Answered;
 use log_records::kind;
+use refusals::{Reason, Refusal};
 
 // How many of the first moves are kept.
 pub fn count(kept: &[bool], moves: usize) -> usize
@@ -57,7 +57,7 @@ pub fn put_picks(log: &[u8], kept: &[bool], area: &mut [u8])
 }
 
 // The schedule that is written from the moves of a run that raced, at the area's start, and its length; or refusal 17 where the area is shorter.
-pub fn write(log: &[u8], area: &mut [u8]) -> Answered
+pub fn write(log: &[u8], area: &mut [u8]) -> Result<usize, Refusal>
     requires { RacedIn log.now }
     ensures { WritesFrom log.now area.old (answered result) area.new }
 {
@@ -68,11 +68,8 @@ pub fn write(log: &[u8], area: &mut [u8]) -> Answered
     log_marking::mark(log, failing, last, &mut kept);
     let length = count(&kept, moves);
     if area.len() < length {
-        return Answered::Refused {
-            number: 17,
-            place: 0,
-        };
+        return Err(Reason::ScheduleArea.at(0));
     }
     put_picks(log, &kept, area);
-    Answered::Value(length)
+    Ok(length)
 }

@@ -68,20 +68,15 @@ fn spot_after(bytes: &[u8]) -> Spot
 {
     let mut line = 1;
     let mut column = 1;
-    let mut index = 0;
-    while index < bytes.len() {
-        if bytes[index] == b'\n' {
+    for byte in bytes {
+        if *byte == b'\n' {
             line += 1;
             column = 1;
         } else {
             column += 1;
         }
-        index += 1;
     }
-    Spot {
-        line: line,
-        column: column,
-    }
+    Spot { line, column }
 }
 
 // The line and the column of a token by its number; those of the text's end if there are fewer.

@@ -5,9 +5,9 @@ use native.Mathlib.Omega.{arith}
 use mathlib.Core.Path.{◌≡◌, refl, sym, ap, ap₂, subst, ◌∙◌}
 use mathlib.Core.Logic.{◌⊎◌, inl, inr}
 use mathlib.Core.Bool.{Bool, true, false, cond, true≢false}
-use mathlib.Core.List.{List, [], ◌∷◌, ◌++◌}
+use mathlib.Core.List.{List, [], ◌∷◌}
 use lib.Dec.{ltb}
-use lib.ListN.{length, get_or, set, take, drop, replicate, length-replicate, length-append, length-drop, length-map, drop_of_length-le}
+use lib.ListN.{length, get_or, set, take, drop, replicate, length-replicate, length-append, length-drop, length-map}
 use lib.Seq.{take-append_seam}
 use borrow.Author.Tests.{lt-ltb, le-ltb, ne_eqb}
 use Rattle.format.specs.Area.{overwrite}
@@ -29,14 +29,13 @@ use Rattle.plan_lexer.specs.Place.{place_in, place_of}
 use Rattle.plan_parsing.specs.Plan.{Reading, plan, fault, Fault, read_plan}
 use Rattle.plan_parsing.proofs.PlanRight.{program_right}
 use Rattle.plan_writer.specs.Inner.Held.{held_from, held_program, Writable}
-use Rattle.plan_reader.specs.Inner.Reading.{fault_of, Faulty, PlanHeld, ReadBy, ReadAs}
+use Rattle.plan_reader.specs.Inner.Reading.{fault_of, ReadBy, ReadAs}
 use Rattle.plan_reader.specs.declared.Outcome.{Outcome}
 use Rattle.plan_reader.specs.declared.Outcome.TheVariants.{Plan, Refused, Full}
 use Rattle.read.specs.Read as texts
 use Rattle.read.specs.Read.{Failure, of_fault, too_many, short_for_plan, failed_at, answer_by, area_by, read_answer, read_area}
 use Rattle.read.specs.Answer.{failure_of, known_kind, answered}
 use Rattle.read.specs.Inner.Begun.{Held, told_answer, PlanTold, OfText, Lent, TokensPlan, TokensFault, TokensTold, Tried}
-use Rattle.read.specs.declared.ReadAnswer.{ReadAnswer}
 use Rattle.read.specs.declared.ReadAnswer.TheVariants.{Failed}
 
 -- ---- a plan in arrays

@@ -5,7 +5,7 @@ ghost use Rattle.std.specs.Prelude.{◌<◌, ◌≤◌, ◌≡◌, length, [], �
 ghost use Rattle.plan_writer.specs.Inner.Held.{held_program};
 ghost use Rattle.read.specs.Read.{failed_at, read_answer, read_area};
 ghost use Rattle.read.specs.Answer.{failure_of, known_kind, answered};
-ghost use Rattle.read.specs.Inner.Begun.{Held, PlanTold, OfText, TokensTold, Tried, Lent, told_answer};
+ghost use Rattle.read.specs.Inner.Begun.{Held, PlanTold, OfText, TokensTold, Tried, Lengths, Lent, told_answer};
 ghost use Rattle.plan_packed.specs.Inner.Steps.{Ordered};
 ghost use Rattle.plan_parser.specs.Inner.Reading.{Sized};
 
@@ -181,82 +181,24 @@ fn read_into(
     read_tokens(&tokens[0..count], counts, words, goals, values, area, told)
 }
 
-// By arrays for most texts of up to 191 bytes, since filling longer ones takes longer than reading them.
-fn in_few(text: &[u8], area: &mut [u8], told: &mut [usize; 4]) -> bool
-    requires { length told.old ≡ 4 }
-    ensures { Tried text.now 64 area.old area.new told.new result }
+// By arrays of these lengths, of which there are four, since filling longer ones takes longer than reading a short text. Whether there is an answer; there is
+// none where they are too short.
+fn in_arrays<
+    const MOST_TOKENS: usize,
+    const COUNTS: usize,
+    const WORDS: usize,
+    const GOALS: usize,
+    const VALUES: usize,
+>(text: &[u8], area: &mut [u8], told: &mut [usize; 4]) -> bool
+    requires lengths { Lengths MOST_TOKENS COUNTS WORDS GOALS VALUES }
+    requires told_len { length told.old ≡ 4 }
+    ensures { Tried text.now WORDS area.old area.new told.new result }
 {
-    let mut tokens = [0u8; 192];
-    let mut counts = [0u8; 193];
-    let mut words = [0usize; 64];
-    let mut goals = [0u16; 96];
-    let mut values = [0usize; 48];
-    read_into(
-        text,
-        &mut tokens,
-        &mut counts,
-        &mut words,
-        &mut goals,
-        &mut values,
-        area,
-        told,
-    )
-}
-
-// By arrays for most texts of up to 639 bytes.
-fn in_some(text: &[u8], area: &mut [u8], told: &mut [usize; 4]) -> bool
-    requires { length told.old ≡ 4 }
-    ensures { Tried text.now 192 area.old area.new told.new result }
-{
-    let mut tokens = [0u8; 640];
-    let mut counts = [0u8; 641];
-    let mut words = [0usize; 192];
-    let mut goals = [0u16; 256];
-    let mut values = [0usize; 96];
-    read_into(
-        text,
-        &mut tokens,
-        &mut counts,
-        &mut words,
-        &mut goals,
-        &mut values,
-        area,
-        told,
-    )
-}
-
-// By arrays for most texts of up to 1,535 bytes.
-fn in_many(text: &[u8], area: &mut [u8], told: &mut [usize; 4]) -> bool
-    requires { length told.old ≡ 4 }
-    ensures { Tried text.now 384 area.old area.new told.new result }
-{
-    let mut tokens = [0u8; 1536];
-    let mut counts = [0u8; 1537];
-    let mut words = [0usize; 384];
-    let mut goals = [0u16; 512];
-    let mut values = [0usize; 192];
-    read_into(
-        text,
-        &mut tokens,
-        &mut counts,
-        &mut words,
-        &mut goals,
-        &mut values,
-        area,
-        told,
-    )
-}
-
-// By arrays for every text.
-fn in_all(text: &[u8], area: &mut [u8], told: &mut [usize; 4]) -> bool
-    requires { length told.old ≡ 4 }
-    ensures { Tried text.now 1024 area.old area.new told.new result }
-{
-    let mut tokens = [0u8; MOST];
-    let mut counts = [0u8; 16385];
-    let mut words = [0usize; TERMS];
-    let mut goals = [0u16; 8408];
-    let mut values = [0usize; 3108];
+    let mut tokens = [0u8; MOST_TOKENS];
+    let mut counts = [0u8; COUNTS];
+    let mut words = [0usize; WORDS];
+    let mut goals = [0u16; GOALS];
+    let mut values = [0usize; VALUES];
     read_into(
         text,
         &mut tokens,
@@ -271,17 +213,12 @@ fn in_all(text: &[u8], area: &mut [u8], told: &mut [usize; 4]) -> bool
 
 // The smallest arrays that are likely to do for a text.
 fn likely(text: &[u8]) -> usize {
-    let bytes = text.len();
-    if bytes < 192 {
-        return 0;
+    match text.len() {
+        0..=191 => 0,
+        192..=639 => 1,
+        640..=1535 => 2,
+        _ => 3,
     }
-    if bytes < 640 {
-        return 1;
-    }
-    if bytes < 1536 {
-        return 2;
-    }
-    3
 }
 
 // By arrays of this size, 0 to 3, or by the next ones where they are too short. It calls itself, and so the compiler keeps the frames of all arrays out of its
@@ -291,28 +228,30 @@ fn read_from(text: &[u8], area: &mut [u8], told: &mut [usize; 4], size: usize)
     ensures { (told_answer text.now told.new ≡ read_answer text.now area.old)
         × (area.new ≡ read_area text.now area.old) }
 {
-    if 2 < size {
-        in_all(text, area, told);
-        return;
-    }
-    if size == 2 {
-        if in_many(text, area, told) {
-            return;
+    match size {
+        // for most texts of up to 191 bytes
+        0 => {
+            if !in_arrays::<192, 193, 64, 96, 48>(text, area, told) {
+                read_from(text, area, told, 1);
+            }
         }
-        read_from(text, area, told, 3);
-        return;
-    }
-    if size == 1 {
-        if in_some(text, area, told) {
-            return;
+        // for most texts of up to 639 bytes
+        1 => {
+            if !in_arrays::<640, 641, 192, 256, 96>(text, area, told) {
+                read_from(text, area, told, 2);
+            }
         }
-        read_from(text, area, told, 2);
-        return;
+        // for most texts of up to 1,535 bytes
+        2 => {
+            if !in_arrays::<1536, 1537, 384, 512, 192>(text, area, told) {
+                read_from(text, area, told, 3);
+            }
+        }
+        // for every text
+        _ => {
+            in_arrays::<MOST, 16385, TERMS, 8408, 3108>(text, area, told);
+        }
     }
-    if in_few(text, area, told) {
-        return;
-    }
-    read_from(text, area, told, 1);
 }
 
 // The answer that was told.

@@ -1,15 +1,14 @@
-use Prim.Native.Nat.{ℕ, ◌+◌, ◌-◌, ◌≤◌, ◌<◌}
+use Prim.Native.Nat.{ℕ, ◌+◌, ◌<◌}
 use native.Mathlib.Omega.{arith}
 use mathlib.Core.Path.{◌≡◌, refl, sym, ap, ◌∙◌}
 use mathlib.Core.List.{List, [], ◌∷◌, ◌++◌}
-use lib.ListN.{length, get_or}
+use lib.ListN.{get_or}
 use borrow.Author.Tests.{eqb-true, eqb-false}
 use borrow.Author.Rules.{rules}
 use Rattle.plan_notation.specs.Lexing.{Token, token, nothing, codes_of, ended_at_end}
 use Rattle.plan_scanner.specs.Inner.Classes.{Scanned}
 use Rattle.plan_scanner.specs.Inner.Extents.{onward}
 use Rattle.plan_scanner.proofs.ScanLaws.{no_byte, blank, digit, mark, hash, pair_inside, pair, lone}
-use Rattle.plan_lexer.specs.Kept.{Kept}
 use Rattle.plan_lexer.proofs.KeptLaws.{kept_none, kept_as, codes, codes_on}
 use Rattle.plan_lexer.proofs.lex.Goals as goal
 use Rattle.plan_lexer.proofs.lex.Goals.{After-becomes, After-class_of-class}

@@ -2,7 +2,6 @@
 use mathlib.Core.Path.{◌∙◌, sym}
 use borrow.Author.Tests.{eq-eqb, ne_eqb}
 use Rattle.read.specs.Inner.Begun.{told_answer}
-use borrow.Author.Rules.{rules}
 use Rattle.read.proofs.answer.Goals as goal
 
 pub returns-then-told-eq-WRITTEN : goal.returns-then-told-eq-WRITTEN

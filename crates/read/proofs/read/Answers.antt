@@ -2,7 +2,6 @@
 use mathlib.Core.Path.{refl, ap, ◌∙◌}
 use lib.ListN.{length}
 use Rattle.read.proofs.Answers.{read_length}
-use borrow.Author.Rules.{rules}
 use Rattle.read.proofs.read.Goals as goal
 
 pub read_from-requires : goal.read_from-requires

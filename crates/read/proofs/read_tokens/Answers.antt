@@ -2,8 +2,7 @@
 use native.Mathlib.Omega.{arith}
 use mathlib.Core.Path.{refl}
 use mathlib.Core.Logic.{inl, inr}
-use Rattle.read.proofs.Answers.{some_token, plan_in_arrays, fault_tokens, plan_tokens, full_short, written_length}
-use borrow.Author.Rules.{rules}
+use Rattle.read.proofs.Answers.{some_token, plan_in_arrays, fault_tokens, plan_tokens, full_short}
 use Rattle.read.proofs.read_tokens.Goals as goal
 
 pub read_plan-outcome-requires : goal.read_plan-outcome-requires

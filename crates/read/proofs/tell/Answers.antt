@@ -1,6 +1,5 @@
 -- `tell` meets its contract. Assumes nothing.
 use Rattle.read.proofs.Answers.{four_set}
-use borrow.Author.Rules.{rules}
 use Rattle.read.proofs.tell.Goals as goal
 
 pub returns : goal.returns

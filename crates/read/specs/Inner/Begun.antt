@@ -1,5 +1,5 @@
 -- What is written of a plan that is held in arrays, and reading into arrays that are lent: no reader of the entry's promise needs it. Assumes nothing.
-use Rattle.std.specs.Prelude.{ℕ, ◌+◌, ◌-◌, ◌*◌, ◌^◌, ◌≤◌, ◌<◌, ◌≡◌, Bool, true, false, cond, List, [], ◌∷◌, ◌⊎◌, eqb, length, get_or}
+use Rattle.std.specs.Prelude.{ℕ, ◌+◌, ◌^◌, ◌≤◌, ◌<◌, ◌≡◌, Bool, true, false, cond, List, [], ◌∷◌, ◌⊎◌, eqb, length, get_or}
 use Rattle.format.specs.Area.{overwrite}
 use Rattle.plan_packed.specs.Syntax.{Program}
 use Rattle.plan_packed.specs.Inner.Steps.{Ordered}
@@ -55,6 +55,17 @@ pub record Lent (tokens counts words goals values : List ℕ) : Type 0 where
   pub few_tokens : length tokens ≤ 16384
   pub more_counts : length tokens < length counts
   pub whole : length words ≡ 1024 → length tokens ≡ 16384
+
+-- lengths of such arrays
+pub record Lengths (tokens counts words goals values : ℕ) : Type 0 where
+  pub few_tokens : tokens ≤ 16384
+  pub more_counts : counts ≡ tokens + 1
+  pub most_words : words ≤ 1024
+  pub some_goals : 16 ≤ goals
+  pub most_goals : goals ≤ 8408
+  pub some_values : 16 ≤ values
+  pub most_values : values ≤ 3108
+  pub whole : words ≡ 1024 → (goals ≡ 8408) × (values ≡ 3108) × (tokens ≡ 16384)
 
 -- tokens of a text
 pub record OfText (ts : List ℕ) : Type 0 where

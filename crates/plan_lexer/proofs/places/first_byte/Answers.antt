@@ -1,13 +1,11 @@
-use Prim.Native.Nat.{ℕ, ◌-◌, ◌≤◌}
+use Prim.Native.Nat.{ℕ}
 use native.Mathlib.Omega.{arith}
 use mathlib.Core.Path.{◌≡◌, refl, sym, ap, ◌∙◌}
 use mathlib.Core.List.{List, [], ◌∷◌}
 use lib.ListN.{length}
-use borrow.Author.Rules.{rules}
 use Rattle.plan_notation.specs.Tokens.{text_end}
 use Rattle.plan_notation.specs.Lexing.{Token, token, nothing, tokens_of, ended_at_end}
 use Rattle.plan_scanner.specs.Inner.Classes.{Scanned}
-use Rattle.plan_scanner.specs.Inner.Extents.{onward}
 use Rattle.plan_scanner.proofs.ScanLaws.{no_byte, blank, hash}
 use Rattle.plan_lexer.specs.Place.{place_in}
 use Rattle.plan_lexer.proofs.PlaceLaws.{first_place, later_place, at_end}
