@@ -87,11 +87,9 @@ fn name_roots(
     ensures counted { Counted (root_times plan.now procedures) times.new }
 {
     let mut best = count;
-    let mut procedure = 0;
-    while procedure < procedures {
+    for procedure in 0..procedures {
         let root = layout::root(plan, procedure);
         best = name(rows, words, times, rows::E, root, best);
-        procedure += 1;
     }
     best
 }
@@ -113,11 +111,9 @@ pub fn name_all(
     ensures counted { Counted (all_times plan.now count) times.new }
 {
     let mut best = name_roots(rows, plan, procedures, count, words, times);
-    let mut term = 0;
-    while term < count {
+    for term in 0..count {
         let least = name_children(rows, words, times, term, best);
         best = plan_name_tests::lower_call(plan, procedures, count, words, term, least);
-        term += 1;
     }
     best
 }
@@ -128,10 +124,8 @@ fn all_once(times: &[u8; 1024], count: usize) -> bool
     ensures { result ≡ true → (t : ℕ) → t < count → not_once times.now t ≡ false }
 {
     let mut once = true;
-    let mut term = 0;
-    while term < count {
-        once = once & (times[term] == 1);
-        term += 1;
+    for named in &times[..count] {
+        once &= *named == 1;
     }
     once
 }
@@ -144,12 +138,8 @@ pub fn lowest_miscounted(times: &[u8; 1024], count: usize) -> usize
     if all_once(times, count) {
         return count;
     }
-    let mut term = 0;
-    while term < count {
-        if times[term] != 1 {
-            return term;
-        }
-        term += 1;
-    }
-    term
+    times[..count]
+        .iter()
+        .position(|named| *named != 1)
+        .unwrap_or(count)
 }

@@ -39,12 +39,10 @@ pub fn hand_to_roots(plan: &[u8], procedures: usize, count: usize, scopes: &mut 
     requires scopes_value { scopes.old ≡ replicate 1024 0 }
     ensures { RootsScoped plan.now procedures scopes.new }
 {
-    let mut procedure = 0;
-    while procedure < procedures {
+    for procedure in 0..procedures {
         let root = layout::root(plan, procedure);
         let parameters = layout::parameters(plan, procedure);
         hand(scopes, ((1usize << parameters) - 1) as u8, root);
-        procedure += 1;
     }
 }
 
@@ -72,10 +70,8 @@ pub fn all_bound(
     ensures { result ≡ true → (p : ℕ) → p < procedures → uses_unbound_slot plan.now p ≡ false }
 {
     let mut all = true;
-    let mut term = 0;
-    while term < count {
-        all = all & bound(words[term], scopes[term]);
-        term += 1;
+    for term in 0..count {
+        all &= bound(words[term], scopes[term]);
     }
     all
 }

@@ -36,7 +36,8 @@ pub overflow_mul-value : goal.overflow_mul-value
 overflow_mul-value c =
     let a = c.args in
     let l = c.loop-byte in
-    omega (arith, size a.plan.now a.start a.count c.requires.0, small a.plan.now (a.start * 8) l.byte-index (omega (arith, size a.plan.now a.start a.count c.requires.0)))
+    let n = size a.plan.now a.start a.count c.requires.0 in
+    omega (arith, n, small a.plan.now (a.start * 8) l.byte-index (omega (arith, n)))
 
 pub overflow_add-value : goal.overflow_add-value
 overflow_add-value c =

@@ -1,9 +1,8 @@
 -- `name_children`: as many children as the row of the tag has.
-use mathlib.Core.Path.{◌≡◌, refl, sym, subst, ◌∙◌}
+use mathlib.Core.Path.{refl, sym, subst, ◌∙◌}
 use Prim.Native.Nat.{ℕ, ◌<◌}
 use native.Mathlib.Omega.{arith}
 use borrow.Author.Rules.{rules}
-use lib.ListN.{get_or}
 use Rattle.plan_packed.specs.Format.{tag_count}
 use Rattle.plan_packed.specs.Inner.Steps.{tag_in, lower_all, count_all}
 use Rattle.plan_packed.proofs.RowLaws.{no_child, one_child, two_children, three_children, lower_more, count_more, named_by_row}

@@ -1,5 +1,4 @@
 -- `bound`: by the tag and the bit of the slot.
-use borrow.Author.Rules.{rules}
 use Rattle.plan_scopes.proofs.bound.Goals as goal
 
 pub returns : goal.returns
