@@ -229,13 +229,11 @@ pub fn lowest_open(plan: &[u8], procedures: usize, count: usize, words: &[usize]
     requires loaded { Loaded plan.now count words.now }
     ensures { Lowest (uses_unbound_slot plan.now) procedures result }
 {
-    let mut procedure = 0;
-    while procedure < procedures {
-        let bound = (1usize << layout::parameters(plan, procedure)) - 1;
-        if !closed_expression(words, layout::root(plan, procedure), bound) {
+    for procedure in 0..procedures {
+        let parameters = layout::parameters(plan, procedure);
+        if !closed_with(words, layout::root(plan, procedure), parameters) {
             return procedure;
         }
-        procedure += 1;
     }
-    procedure
+    procedures
 }

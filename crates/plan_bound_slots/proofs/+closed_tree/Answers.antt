@@ -1,4 +1,4 @@
-use Prim.Native.Nat.{ℕ, ◌-◌, ◌<◌}
+use Prim.Native.Nat.{ℕ, ◌<◌}
 use Rattle.format.proofs.Ranges.{NoneOf}
 use Rattle.plan_bound_slots.proofs.Conditions.{before_truth, childless, equal_call, equal_next, equal_told, past_not}
 use Rattle.plan_bound_slots.proofs.Expressions.{call_left, call_list, fork_left, if_call, if_left, if_open, if_test, join_left, leaf_closed, leaf_open}

@@ -1,6 +1,5 @@
 -- `closed_leaf`: null and new use no slot, a variable its own.
 use mathlib.Core.Path.{sym, ◌∙◌}
-use borrow.Author.Rules.{rules}
 use Rattle.plan_packed.specs.Inner.Steps.{slots}
 use Rattle.plan_packed.proofs.Walk.{leaf_closed, leaf_variable}
 use Rattle.plan_bound_slots.proofs.closed_leaf.Goals as goal
