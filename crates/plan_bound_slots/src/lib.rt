@@ -9,18 +9,15 @@ ghost use Rattle.plan_packed.specs.Inner.Operands.{tag_of};
 ghost use Rattle.plan_packed.specs.Slots.{closed, closedᶜ, closedᵃ};
 ghost use Rattle.plan_packed.specs.Refusals.{uses_unbound_slot};
 ghost use Rattle.plan_packed.specs.Inner.Steps.{Right, Loaded, bit_of, with_slot, slots, Ordered, tree_in, condition_in, list_in, leaf_in};
-ghost use Rattle.plan_bound_slots.specs.Inner.Left.{told, seen, After};
+ghost use Rattle.plan_bound_slots.specs.Inner.Left.{seen, After};
 
 use plan_header::layout;
 use plan_operands::tags;
+use std::ops::ControlFlow;
+use std::ops::ControlFlow::{Break, Continue};
 
-// What is left to see of an expression: nothing, and all slots are bound, or one is not; or the term of an index, with what is bound there.
-#[derive(Clone, Copy)]
-enum Rest {
-    Closed,
-    Open,
-    At(usize, usize),
-}
+// What is left to see of an expression: nothing, and this was seen, whether all slots are bound; or the term of an index, with what is bound there.
+type Rest = ControlFlow<bool, (usize, usize)>;
 
 // This slot is bound.
 fn holds(bound: usize, slot: usize) -> bool
@@ -40,13 +37,6 @@ fn with(bound: usize, slot: usize) -> usize
     } else {
         bound | (1usize << slot)
     }
-}
-
-// Nothing is left to see.
-fn told(closed: bool) -> Rest
-    ensures { result ≡ told closed }
-{
-    if closed { Rest::Closed } else { Rest::Open }
 }
 
 // A term without children, by its 40 bits.
@@ -72,14 +62,14 @@ fn rest_of_two(words: &[usize], first: usize, bound: usize, second: usize, inner
     let word = plan_words::word(words, second);
     if plan_operands::tag(word) < tags::READ {
         if closed_leaf(word, inner) {
-            return Rest::At(first, bound);
+            return Continue((first, bound));
         }
-        return Rest::Open;
+        return Break(false);
     }
     if closed_expression(&*words, first, bound) {
-        return Rest::At(second, inner);
+        return Continue((second, inner));
     }
-    Rest::Open
+    Break(false)
 }
 
 // An expression, taken apart once.
@@ -94,8 +84,8 @@ fn rest_of(words: &[usize], term: usize, bound: usize) -> Rest
     let first = plan_operands::first(word);
     let second = plan_operands::second(word);
     match plan_operands::tag(word) {
-        tags::VARIABLE => told(holds(bound, plan_operands::slot_of(word))),
-        tags::READ => Rest::At(first, bound),
+        tags::VARIABLE => Break(holds(bound, plan_operands::slot_of(word))),
+        tags::READ => Continue((first, bound)),
         tags::WRITE => rest_of_two(
             words,
             first,
@@ -113,22 +103,22 @@ fn rest_of(words: &[usize], term: usize, bound: usize) -> Rest
             if closed_condition(&*words, first, bound) {
                 return rest_of_two(words, second, bound, plan_operands::third(word), bound);
             }
-            Rest::Open
+            Break(false)
         }
         tags::WHILE => {
             if closed_condition(&*words, first, bound) {
-                return Rest::At(second, bound);
+                return Continue((second, bound));
             }
-            Rest::Open
+            Break(false)
         }
-        tags::CALL => told(closed_list(&*words, plan_operands::list_of(word), bound)),
-        tags::FORK => Rest::At(first, bound),
-        tags::JOIN => Rest::At(first, bound),
+        tags::CALL => Break(closed_list(&*words, plan_operands::list_of(word), bound)),
+        tags::FORK => Continue((first, bound)),
+        tags::JOIN => Continue((first, bound)),
         tags::SYNCH => rest_of_two(words, first, bound, second, bound),
-        tags::WAIT => Rest::At(first, bound),
-        tags::NOTIFY => Rest::At(first, bound),
-        tags::NOTIFY_ALL => Rest::At(first, bound),
-        _ => Rest::Closed,
+        tags::WAIT => Continue((first, bound)),
+        tags::NOTIFY => Continue((first, bound)),
+        tags::NOTIFY_ALL => Continue((first, bound)),
+        _ => Break(true),
     }
 }
 
@@ -144,9 +134,8 @@ fn closed_expression(words: &[usize], from: usize, outer: usize) -> bool
     loop {
         let rest = rest_of(words, term, bound);
         match rest {
-            Rest::Closed => return true,
-            Rest::Open => return false,
-            Rest::At(next, inner) => {
+            Break(closed) => return closed,
+            Continue((next, inner)) => {
                 term = next;
                 bound = inner;
             }
@@ -185,9 +174,8 @@ fn closed_condition(words: &[usize], from: usize, bound: usize) -> bool
             tags::EQUAL => {
                 let rest = rest_of_two(words, first, bound, second, bound);
                 match rest {
-                    Rest::Closed => return true,
-                    Rest::Open => return false,
-                    Rest::At(next, inner) => return closed_expression(&*words, next, inner),
+                    Break(closed) => return closed,
+                    Continue((next, inner)) => return closed_expression(&*words, next, inner),
                 }
             }
             _ => return true,
