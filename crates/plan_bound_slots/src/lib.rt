@@ -44,10 +44,7 @@ fn closed_leaf(word: usize, bound: usize) -> bool
     requires { tag_of word < 3 }
     ensures { result ≡ closed (slots bound) (leaf_in word) }
 {
-    if plan_operands::tag(word) != tags::VARIABLE {
-        return true;
-    }
-    holds(bound, plan_operands::slot_of(word))
+    plan_operands::tag(word) != tags::VARIABLE || holds(bound, plan_operands::slot_of(word))
 }
 
 // Two operands, of which one is seen here and the other is left: the second is seen here if it has no children, else the first.
