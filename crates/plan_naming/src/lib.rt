@@ -12,7 +12,7 @@ ghost use Rattle.plan_packed.specs.Inner.Steps.{misplaced_root, not_once};
 
 use plan_header::layout;
 use plan_operands::rows;
-use plan_operands::rows::{FIRST, Rows, SECOND, THIRD};
+use plan_operands::rows::{FIRST, Rows};
 
 // Term `index` is named, where the table wants `sort`: it is counted in `times`, and the answer is the lower of `best` and the
 // term, if that is of another sort.
@@ -50,24 +50,17 @@ fn name_children(
 {
     let word = words[term];
     let tag = plan_operands::tag(word);
-    let first = rows::number(rows, tag, FIRST);
-    if first == 0 {
-        return best;
+    let mut least = best;
+    for operand in 0..3 {
+        let column = FIRST + 2 * operand;
+        let sort = rows::number(rows, tag, column);
+        if sort == 0 {
+            return least;
+        }
+        let child = rows::child(rows, tag, column + 1, word);
+        least = name(rows, words, times, sort, child, least);
     }
-    let child = rows::child(rows, tag, FIRST + 1, word);
-    let least = name(rows, words, times, first, child, best);
-    let second = rows::number(rows, tag, SECOND);
-    if second == 0 {
-        return least;
-    }
-    let child = rows::child(rows, tag, SECOND + 1, word);
-    let least = name(rows, words, times, second, child, least);
-    let third = rows::number(rows, tag, THIRD);
-    if third == 0 {
-        return least;
-    }
-    let child = rows::child(rows, tag, THIRD + 1, word);
-    name(rows, words, times, third, child, least)
+    least
 }
 
 // Each procedure names its root.
