@@ -20,7 +20,7 @@ use std::ops::ControlFlow::{Break, Continue};
 type Rest = ControlFlow<bool, (usize, usize)>;
 
 // This slot is bound.
-fn holds(bound: usize, slot: usize) -> bool
+pub fn holds(bound: usize, slot: usize) -> bool
     requires { slot < 64 }
     ensures { result ≡ bit_of bound slot }
 {
@@ -28,7 +28,7 @@ fn holds(bound: usize, slot: usize) -> bool
 }
 
 // What is bound in a let's second operand; slot 15 binds nothing.
-fn with(bound: usize, slot: usize) -> usize
+pub fn with(bound: usize, slot: usize) -> usize
     requires { slot < 64 }
     ensures { result ≡ with_slot bound slot }
 {

@@ -18,11 +18,7 @@ pub fn inner(tag: usize, word: usize, scope: u8) -> u8
     if tag != tags::LET {
         return scope;
     }
-    let slot = plan_operands::slot_of(word);
-    if slot == 15 {
-        return scope;
-    }
-    ((wide(scope) | (1usize << slot)) % 256) as u8
+    (plan_bound_slots::with(wide(scope), plan_operands::slot_of(word)) % 256) as u8
 }
 
 // Term `index` is handed this scope.
@@ -51,7 +47,7 @@ fn bound(word: usize, scope: u8) -> bool
     ensures { result ≡ (not (eqb (tag_of word) 1) || bit_of scope (slot_bits word)) }
 {
     (plan_operands::tag(word) != tags::VARIABLE)
-        | ((wide(scope) >> plan_operands::slot_of(word)) % 2 == 1)
+        | plan_bound_slots::holds(wide(scope), plan_operands::slot_of(word))
 }
 
 // Every slot that a procedure uses is bound there, of a plan whose terms are named once. Without an early end and without a branch to each term, since the
