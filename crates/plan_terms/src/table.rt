@@ -132,15 +132,13 @@ pub fn load(
     ensures terms_noted { count ≤ result → TermsNoted plan.now count notes.new }
     ensures terms_scoped { count ≤ result → TermsScoped plan.now count scopes.new }
 {
-    let mut term = 0;
-    while term < count {
+    for term in 0..count {
         let word = term::word_at(plan, procedures, term);
         let scope = scopes[term];
         if wrong_term(rows, word, scope, term, procedures, count, notes, scopes) {
             return term;
         }
         words[term] = word;
-        term += 1;
     }
-    term
+    count
 }

@@ -2,7 +2,6 @@
 use mathlib.Core.Path.{◌≡◌, sym, subst, ap, ◌∙◌}
 use mathlib.Core.Bool.{Bool, true, false, not, true≢false}
 use Prim.Native.Nat.{ℕ, ◌≤◌, ◌<◌}
-use borrow.Author.Rules.{rules}
 use lib.Dec.{eqb}
 use Rattle.plan_packed.specs.Inner.Operands.{tag_of}
 use Rattle.plan_packed.specs.Refusals.{breaks_table}
