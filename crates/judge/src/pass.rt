@@ -52,14 +52,12 @@ fn pass(log: &[u8], version: usize, places: u16, table: &mut [Row]) -> Found
     requires clear { Clear places table.old }
     ensures { Finds (version_of version) log.now places result }
 {
-    let count = log.len() / 3;
     log_row_stores::start(table);
     let read = log_rows::ordering(version, kind::VOLATILE_READ);
     let write = log_rows::ordering(version, kind::VOLATILE_WRITE);
     let mut numbers = [0u8; 1024];
     let mut given = 0u16;
-    let mut index = 0;
-    while index < count {
+    for index in 0..log.len() / 3 {
         let taking = log_effects::step(
             log,
             index,
@@ -73,7 +71,6 @@ fn pass(log: &[u8], version: usize, places: u16, table: &mut [Row]) -> Found
         if ended(taking) {
             return finding(taking, index);
         }
-        index += 1;
     }
     Found::Nothing
 }

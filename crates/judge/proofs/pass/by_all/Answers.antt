@@ -3,7 +3,6 @@ use Rattle.judge.proofs.Going.{clear_rows}
 use mathlib.Core.Path.{refl}
 use mathlib.Core.Logic.{inr}
 use native.Mathlib.Omega.{arith}
-use borrow.Author.Rules.{rules}
 use Rattle.judge.proofs.pass.by_all.Goals as goal
 
 pub pass-requires : goal.pass-requires

@@ -1,6 +1,5 @@
 -- `judge::pass::by_either` meets its contract. Assumes nothing.
 use Rattle.judge.proofs.Answered.{finds_large}
-use borrow.Author.Rules.{rules}
 use Rattle.judge.proofs.pass.by_either.Goals as goal
 
 pub returns-then-all : goal.returns-then-all

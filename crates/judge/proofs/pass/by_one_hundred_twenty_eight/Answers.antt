@@ -2,7 +2,6 @@
 use Rattle.judge.proofs.Going.{clear_rows}
 use mathlib.Core.Logic.{inl}
 use native.Mathlib.Omega.{arith}
-use borrow.Author.Rules.{rules}
 use Rattle.judge.proofs.pass.by_one_hundred_twenty_eight.Goals as goal
 
 pub pass-requires : goal.pass-requires

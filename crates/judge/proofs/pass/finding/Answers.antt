@@ -1,5 +1,4 @@
 -- `judge::pass::finding` meets its contract. Assumes nothing.
-use borrow.Author.Rules.{rules}
 use Rattle.judge.proofs.pass.finding.Goals as goal
 
 pub returns-in-Unordered : goal.returns-in-Unordered

@@ -1,7 +1,6 @@
 -- `judge::pass::long` meets its contract. Assumes nothing.
 use Rattle.judge.proofs.Answered.{answers_found}
 use mathlib.Core.Path.{sym, ◌∙◌}
-use borrow.Author.Rules.{rules}
 use Rattle.judge.proofs.pass.long.Goals as goal
 
 pub returns : goal.returns

@@ -1,7 +1,6 @@
 -- `judge::pass::short` meets its contract. Assumes nothing.
 use Rattle.judge.proofs.Answered.{answers_found, never_full}
 use mathlib.Core.Logic.{inl}
-use borrow.Author.Rules.{rules}
 use Rattle.judge.proofs.pass.short.Goals as goal
 
 pub returns-then-count-le8 : goal.returns-then-count-le8
