@@ -1,9 +1,10 @@
 // The pass over a log: each record is held against the plain accesses of its field that it must come after, then the table takes it in.
-ghost use Rattle.std.specs.Prelude.{◌≡◌, ◌/◌, ◌≤◌, length};
+ghost use Rattle.std.specs.Prelude.{◌≡◌, ◌+◌, ◌/◌, ◌≤◌, ◌⊎◌, length};
 ghost use Rattle.std.proofs.Math.Option.{none};
 ghost use Rattle.format.specs.Version.{version_of};
 ghost use Rattle.log_records.specs.Refusals.{log_refusal};
 ghost use Rattle.log_conflicts.specs.Judge.{Answers};
+ghost use Rattle.log_rows.specs.Inner.Rows.{place_row};
 ghost use Rattle.judge.specs.Answer.{answered};
 ghost use Rattle.judge.specs.Inner.Found.{Finds, found_of, is_end, judgement_of, is_full};
 ghost use Rattle.judge.specs.Inner.Clear.{Clear, large_table};
@@ -75,74 +76,16 @@ fn pass(log: &[u8], version: usize, places: u16, table: &mut [Row]) -> Found
     Found::Nothing
 }
 
-// What is found by a table for 8 places.
-fn by_eight(log: &[u8], version: usize) -> Found
-    requires { log_refusal log.now ≡ none }
-    ensures { Finds (version_of version) log.now 8 result }
+// What is found by a table with rows for so many places: `ROWS` of them, eight for the threads and three for each place.
+fn by_rows<const ROWS: usize>(log: &[u8], version: usize, places: u16) -> Found
+    requires accepted { log_refusal log.now ≡ none }
+    requires most { (places ≤ 255) ⊎ (places ≡ 1024) }
+    requires rows { ROWS ≡ place_row places + 3 }
+    ensures { Finds (version_of version) log.now places result }
 {
     let clear = [0u16; 8];
-    let mut table = [clear; 35];
-    pass(log, version, 8, &mut table)
-}
-
-// What is found by a table for 16 places.
-fn by_sixteen(log: &[u8], version: usize) -> Found
-    requires { log_refusal log.now ≡ none }
-    ensures { Finds (version_of version) log.now 16 result }
-{
-    let clear = [0u16; 8];
-    let mut table = [clear; 59];
-    pass(log, version, 16, &mut table)
-}
-
-// What is found by a table for 32 places.
-fn by_thirty_two(log: &[u8], version: usize) -> Found
-    requires { log_refusal log.now ≡ none }
-    ensures { Finds (version_of version) log.now 32 result }
-{
-    let clear = [0u16; 8];
-    let mut table = [clear; 107];
-    pass(log, version, 32, &mut table)
-}
-
-// What is found by a table for 64 places.
-fn by_sixty_four(log: &[u8], version: usize) -> Found
-    requires { log_refusal log.now ≡ none }
-    ensures { Finds (version_of version) log.now 64 result }
-{
-    let clear = [0u16; 8];
-    let mut table = [clear; 203];
-    pass(log, version, 64, &mut table)
-}
-
-// What is found by a table for 128 places.
-fn by_one_hundred_twenty_eight(log: &[u8], version: usize) -> Found
-    requires { log_refusal log.now ≡ none }
-    ensures { Finds (version_of version) log.now 128 result }
-{
-    let clear = [0u16; 8];
-    let mut table = [clear; 395];
-    pass(log, version, 128, &mut table)
-}
-
-// What is found by a table for 255 places.
-fn by_many(log: &[u8], version: usize) -> Found
-    requires { log_refusal log.now ≡ none }
-    ensures { Finds (version_of version) log.now 255 result }
-{
-    let clear = [0u16; 8];
-    let mut table = [clear; 776];
-    pass(log, version, 255, &mut table)
-}
-
-// What is found by a table for all 1,024 places.
-fn by_all(log: &[u8], version: usize) -> Found
-    requires { log_refusal log.now ≡ none }
-    ensures { Finds (version_of version) log.now 1024 result }
-{
-    let clear = [0u16; 8];
-    let mut table = [clear; 3083];
-    pass(log, version, 1024, &mut table)
+    let mut table = [clear; ROWS];
+    pass(log, version, places, &mut table)
 }
 
 // What is found, as an answer.
@@ -175,18 +118,18 @@ pub fn short(log: &[u8], version: usize) -> Judgement
 {
     let count = log.len() / 3;
     if count <= 8 {
-        let found = by_eight(log, version);
+        let found = by_rows::<35>(log, version, 8);
         return judgement(found);
     }
     if count <= 16 {
-        let found = by_sixteen(log, version);
+        let found = by_rows::<59>(log, version, 16);
         return judgement(found);
     }
     if count <= 32 {
-        let found = by_thirty_two(log, version);
+        let found = by_rows::<107>(log, version, 32);
         return judgement(found);
     }
-    let found = by_sixty_four(log, version);
+    let found = by_rows::<203>(log, version, 64);
     judgement(found)
 }
 
@@ -196,7 +139,7 @@ pub fn middle(log: &[u8], version: usize) -> Judgement
     requires short { length log.now / 3 ≤ 128 }
     ensures { Answers (version_of version) log.now (answered result) }
 {
-    let found = by_one_hundred_twenty_eight(log, version);
+    let found = by_rows::<395>(log, version, 128);
     judgement(found)
 }
 
@@ -206,9 +149,9 @@ fn by_either(log: &[u8], version: usize, all: bool) -> Found
     ensures { Finds (version_of version) log.now (large_table all) result }
 {
     if all {
-        return by_all(log, version);
+        return by_rows::<3083>(log, version, 1024);
     }
-    by_many(log, version)
+    by_rows::<776>(log, version, 255)
 }
 
 // The answer by a table for 255 places, or at once by one for all, which decides too where 255 do not suffice. It calls itself, so that the compiler keeps it
@@ -229,7 +172,7 @@ pub fn long(log: &[u8], version: usize) -> Judgement
     requires { log_refusal log.now ≡ none }
     ensures { Answers (version_of version) log.now (answered result) }
 {
-    let found = by_sixty_four(log, version);
+    let found = by_rows::<203>(log, version, 64);
     if full(found) {
         return widened(log, version, 255 < log.len() / 3);
     }
