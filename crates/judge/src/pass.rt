@@ -6,46 +6,16 @@ ghost use Rattle.log_records.specs.Refusals.{log_refusal};
 ghost use Rattle.log_conflicts.specs.Judge.{Answers};
 ghost use Rattle.log_rows.specs.Inner.Rows.{place_row};
 ghost use Rattle.judge.specs.Answer.{answered};
-ghost use Rattle.judge.specs.Inner.Found.{Finds, found_of, is_end, judgement_of, is_full};
+ghost use Rattle.judge.specs.Inner.Found.{Finds, judgement_of, is_full};
 ghost use Rattle.judge.specs.Inner.Clear.{Clear, large_table};
 
 use crate::Judgement;
 use log_clocks::Row;
-use log_effects::Taking;
+use log_effects::NoneLeft;
 use log_records::kind;
 
-// What a pass finds.
-#[derive(Clone, Copy)]
-pub enum Found {
-    // The record with this index is the first unordered access.
-    Access(usize),
-    // No unordered access.
-    Nothing,
-    // The log is at more places than the table has rows for.
-    Full,
-}
-
-// What the pass has found at a record, by what came of it.
-fn finding(taking: Taking, index: usize) -> Found
-    ensures { result ≡ found_of index taking }
-{
-    match taking {
-        Taking::Taken => Found::Nothing,
-        Taking::Unordered => Found::Access(index),
-        Taking::NoneLeft => Found::Full,
-    }
-}
-
-// The pass is at its end with a record that the table has not taken in.
-fn ended(taking: Taking) -> bool
-    ensures { result ≡ is_end taking }
-{
-    match taking {
-        Taking::Taken => false,
-        Taking::Unordered => true,
-        Taking::NoneLeft => true,
-    }
-}
+// What a pass finds: the index of the first unordered access, or none; or that the log is at more places than the table has rows for.
+type Found = Result<Option<usize>, NoneLeft>;
 
 // The pass over a log that is not refused, by its version. The table is lent, clear, with rows for so many places.
 fn pass(log: &[u8], version: usize, places: u16, table: &mut [Row]) -> Found
@@ -59,7 +29,7 @@ fn pass(log: &[u8], version: usize, places: u16, table: &mut [Row]) -> Found
     let mut numbers = [0u8; 1024];
     let mut given = 0u16;
     for index in 0..log.len() / 3 {
-        let taking = log_effects::step(
+        let unordered = log_effects::step(
             log,
             index,
             read,
@@ -68,12 +38,12 @@ fn pass(log: &[u8], version: usize, places: u16, table: &mut [Row]) -> Found
             &mut numbers,
             &mut given,
             table,
-        );
-        if ended(taking) {
-            return finding(taking, index);
+        )?;
+        if unordered {
+            return Ok(Some(index));
         }
     }
-    Found::Nothing
+    Ok(None)
 }
 
 // What is found by a table with rows for so many places: `ROWS` of them, eight for the threads and three for each place.
@@ -93,9 +63,9 @@ fn judgement(found: Found) -> Judgement
     ensures { result ≡ judgement_of found }
 {
     match found {
-        Found::Access(index) => Judgement::Unordered(index),
-        Found::Nothing => Judgement::Ordered,
-        Found::Full => Judgement::Ordered,
+        Ok(Some(index)) => Judgement::Unordered(index),
+        Ok(None) => Judgement::Ordered,
+        Err(_) => Judgement::Ordered,
     }
 }
 
@@ -103,11 +73,7 @@ fn judgement(found: Found) -> Judgement
 fn full(found: Found) -> bool
     ensures { result ≡ is_full found }
 {
-    match found {
-        Found::Access(_) => false,
-        Found::Nothing => false,
-        Found::Full => true,
-    }
+    found.is_err()
 }
 
 // The answer to a log of at most 64 records: rows for as many places as it can be at, since clearing more would take longer than judging it.
