@@ -13,9 +13,8 @@ use Rattle.log_records.specs.Refusals.{log_refusal}
 use Rattle.log_conflicts.specs.Judge.{Answers, judges}
 use Rattle.judge.specs.Answer.{answered}
 use Rattle.judge.specs.Inner.Clear.{large_table}
-use Rattle.judge.specs.Inner.Found.{Finds, finds_access, finds_nothing, finds_full, judgement_of, is_full}
+use Rattle.judge.specs.Inner.Found.{Found, Finds, finds_access, finds_nothing, finds_full, judgement_of, is_full}
 use Rattle.judge.specs.declared.Judgement.{Judgement}
-use Rattle.judge.specs.declared.pass.Found.{Found}
 
 pub answers_found : {v : Version} {b : List ℕ} {places : ℕ} {f : Found} → log_refusal b ≡ none → Finds v b places f → is_full f ≡ false → (j : Judgement)
     → j ≡ judgement_of f → Answers v b (answered j)

@@ -69,18 +69,17 @@ pub fn lowest_wrong(log: &[u8]) -> usize
     let early = log_limits::least_early();
     let last = log_limits::least_last();
     let zero = log_limits::zero_bits();
-    let mut index = right_fours(log, &early, &zero);
-    while index + 1 < count {
+    if count == 0 {
+        return 0;
+    }
+    let tested = right_fours(log, &early, &zero);
+    for index in tested..count - 1 {
         if wrong_record(log, index, &early, &zero) {
             return index;
         }
-        index += 1;
     }
-    if count <= index {
-        return index;
-    }
-    if wrong_record(log, index, &last, &zero) {
-        return index;
+    if wrong_record(log, count - 1, &last, &zero) {
+        return count - 1;
     }
     count
 }

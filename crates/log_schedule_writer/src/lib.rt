@@ -17,12 +17,10 @@ pub fn count(kept: &[bool], moves: usize) -> usize
     ensures { (result ≡ count_kept (flagged kept.now) 0 moves) × (result ≤ moves) }
 {
     let mut total = 0;
-    let mut index = 0;
-    while index < moves {
+    for index in 0..moves {
         if kept[index] {
             total += 1;
         }
-        index += 1;
     }
     total
 }
@@ -39,8 +37,7 @@ pub fn put_picks(log: &[u8], kept: &[bool], area: &mut [u8])
     let mut numbers = [0usize; 32];
     let mut next: usize = 1;
     let mut at = 0;
-    let mut index = 0;
-    while index < log.len() / 3 {
+    for index in 0..log.len() / 3 {
         if kept[index] {
             let columns = log_packing::columns_at(log, index);
             let thread = columns.thread;
@@ -52,7 +49,6 @@ pub fn put_picks(log: &[u8], kept: &[bool], area: &mut [u8])
                 next += 1;
             }
         }
-        index += 1;
     }
 }
 

@@ -1,7 +1,6 @@
 -- `judge::judge` meets its contract: refusal 14, then `judge_version`. Assumes nothing.
 use native.Mathlib.Omega.{arith}
 use Rattle.log_conflicts.specs.Judge.{wrong_version, right_version}
-use borrow.Author.Rules.{rules}
 use Rattle.judge.proofs.judge.Goals as goal
 
 pub returns-then-version-gt1 : goal.returns-then-version-gt1

@@ -4,7 +4,6 @@ use Rattle.log_conflicts.specs.Judge.{refuses}
 use Rattle.log_records.specs.Refusals.{log_refusal}
 use mathlib.Core.Path.{◌≡◌, sym, ◌∙◌}
 use mathlib.Core.Option.{none}
-use borrow.Author.Rules.{rules}
 use Rattle.judge.proofs.judge_version.Goals as goal
 use Rattle.judge.proofs.judge_version.Goals.{Else-wrong-log}
 

@@ -3,7 +3,6 @@ use Prim.Native.Nat.{suc, ◌-◌, ◌/◌}
 use native.Mathlib.Omega.{arith}
 use mathlib.Core.Path.{◌≡◌}
 use lib.ListN.{length}
-use borrow.Author.Rules.{rules}
 use Rattle.log_schedule_writer.proofs.Whole.{has_last, few_picks, counted, writes_short, writes_all}
 use Rattle.log_schedule_writer.proofs.write.Goals as goal
 use Rattle.log_schedule_writer.proofs.write.Goals.{After-slice_known-1}
