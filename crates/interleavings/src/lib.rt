@@ -11,7 +11,6 @@ ghost use Rattle.interleavings.specs.Inner.Steps.{Begins, Reached, Listing, Foll
 
 use answers::Answered;
 use plan_refusals::Checked;
-use run_place_notes::Departure;
 
 // What `next_interleaving` answers.
 #[derive(Clone, Copy)]
@@ -62,10 +61,10 @@ fn following(
 {
     let turn = run_place_notes::last_departure(notes, schedule.len());
     match turn {
-        Departure::Over => Next::Over,
-        Departure::At { place, pick } => {
-            let end = text::put_word(area, 0, &schedule[0..place]);
-            let from = text::put_byte(area, end, pick as u8);
+        None => Next::Over,
+        Some(departure) => {
+            let end = text::put_word(area, 0, &schedule[0..departure.place]);
+            let from = text::put_byte(area, end, departure.pick as u8);
             Next::Written(go_on(plan, words, n, area, from))
         }
     }
