@@ -10,7 +10,6 @@ ghost use Rattle.interleavings.specs.Count.{CountAnswer};
 ghost use Rattle.interleavings.specs.Inner.Steps.{Begins, Reached, Listing, Followed, Stands, Advanced, CountsOn};
 
 use refusals::{Reason, Refusal};
-use run_place_notes::Departure;
 
 // From the first `from` picks of the area on, the lowest pick that can follow, until there are n or none can; how many picks that makes.
 fn go_on(plan: &[u8], words: &[usize; 1024], n: usize, area: &mut [u8], from: usize) -> usize
@@ -37,15 +36,10 @@ fn following(
     requires { Listing plan.now words.now n schedule.now notes.now area.old }
     ensures { Followed (program_of plan.now) n schedule.now area.old area.new result }
 {
-    let turn = run_place_notes::last_departure(notes, schedule.len());
-    match turn {
-        Departure::Over => None,
-        Departure::At { place, pick } => {
-            let end = text::put_word(area, 0, &schedule[0..place]);
-            let from = text::put_byte(area, end, pick as u8);
-            Some(go_on(plan, words, n, area, from))
-        }
-    }
+    let departure = run_place_notes::last_departure(notes, schedule.len())?;
+    let end = text::put_word(area, 0, &schedule[0..departure.place]);
+    let from = text::put_byte(area, end, departure.pick as u8);
+    Some(go_on(plan, words, n, area, from))
 }
 
 // Every plan, bound and area gets document 02's answer: a refusal of number 1 to 7 with its place, or of number 18 or 20, and no byte of the area changed; or

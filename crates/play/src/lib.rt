@@ -22,10 +22,8 @@ fn roots(plan: &[u8], procedures: usize) -> [usize; 32]
     ensures { Roots plan.now procedures result }
 {
     let mut all = [0usize; 32];
-    let mut procedure = 0;
-    while procedure < procedures {
+    for procedure in 0..procedures {
         all[procedure] = layout::root(plan, procedure);
-        procedure += 1;
     }
     all
 }

@@ -14,14 +14,12 @@ use refusals::{Reason, Refusal};
 fn lowest_wrong_pick(schedule: &[u8]) -> usize
     ensures { Lowest (wrong_pick schedule.now) (length schedule.now) result }
 {
-    let mut i = 0;
-    while i < schedule.len() {
-        if schedule[i] > 7 {
+    for (i, pick) in schedule.iter().enumerate() {
+        if *pick > 7 {
             return i;
         }
-        i += 1;
     }
-    i
+    schedule.len()
 }
 
 // The lowest pick over 7 of a schedule with this pick added as its last, or the length.

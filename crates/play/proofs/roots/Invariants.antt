@@ -6,7 +6,4 @@ use Rattle.play.specs.Inner.Roots.{Roots}
 use Rattle.play.proofs.roots.Given as goal
 
 abbrev pub invariant-loop-procedure : goal.invariant-loop-procedure
-invariant-loop-procedure l = (l.procedure ≤ l.procedures) × (length l.all ≡ 32) × Roots l.plan l.procedure l.all
-
-abbrev pub decreases-loop-procedure : goal.decreases-loop-procedure
-decreases-loop-procedure l = l.procedures - l.procedure
+invariant-loop-procedure l = (length l.all ≡ 32) × Roots l.plan l.procedure l.all
