@@ -57,13 +57,11 @@ pub fn write(
 {
     put_header(area, version, mask, procedures, terms);
     let base = 8 + 2 * procedures;
-    let mut procedure = 0;
     let mut number = 0;
-    while procedure < procedures {
+    for procedure in 0..procedures {
         let parameters = counts[procedure];
         let root = roots[procedure];
         put_procedure(area, 8 + 2 * procedure, parameters, number);
         number = plan_tree_writer::write_expression(words, root, area, base, number);
-        procedure += 1;
     }
 }

@@ -1,7 +1,6 @@
 -- `put_header` meets its contract. Assumes nothing.
 use native.Mathlib.Omega.{arith}
 use Rattle.plan_writer.proofs.Stores.{four_keeps, four_and_four}
-use borrow.Author.Rules.{rules}
 use Rattle.plan_writer.proofs.put_header.Goals as goal
 
 pub put_four-requires-2 : goal.put_four-requires-2

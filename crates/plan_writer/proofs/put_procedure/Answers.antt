@@ -2,7 +2,6 @@
 use native.Mathlib.Omega.{arith}
 use lib.ListN.{length-set}
 use Rattle.plan_writer.proofs.Stores.{two_bytes}
-use borrow.Author.Rules.{rules}
 use Rattle.plan_writer.proofs.put_procedure.Goals as goal
 
 pub bounds-area-at-2 : goal.bounds-area-at-2
