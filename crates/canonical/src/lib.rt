@@ -35,11 +35,7 @@ fn copy_header(plan: &[u8], area: &mut [u8])
     requires { (8 ≤ length plan.now) × (8 ≤ length area.old) }
     ensures { area.new ≡ sets area.old 0 (take 8 plan.now) }
 {
-    let mut i = 0;
-    while i < 8 {
-        area[i] = plan[i];
-        i += 1;
-    }
+    area[..8].copy_from_slice(&plan[..8]);
 }
 
 // The procedures in their order, each with the number of its root and all its terms.
@@ -49,14 +45,12 @@ fn write_trees(plan: &[u8], words: &[usize; 1024], area: &mut [u8], count: usize
     ensures { area.new ≡ trees_written plan.now 0 0 area.old }
 {
     let base = 8 + 2 * count;
-    let mut procedure = 0;
     let mut number = 0;
-    while procedure < count {
+    for procedure in 0..count {
         let parameters = layout::parameters(plan, procedure);
         put_procedure(area, 8 + 2 * procedure, parameters, number);
         let root = layout::root(plan, procedure);
         number = plan_tree_writer::write_expression(words, root, area, base, number);
-        procedure += 1;
     }
 }
 

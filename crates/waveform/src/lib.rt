@@ -19,11 +19,9 @@ fn put_samples(area: &mut [u8], log: &[u8]) -> usize
 {
     let mut at = 0;
     let mut end = text_sample_lines::no_values();
-    let mut index = 0;
-    while index < log.len() / 3 {
+    for index in 0..log.len() / 3 {
         let columns = log_packing::columns_at(log, index);
         at = text_sample_lines::put_next_sample(area, at, index + 1, &mut end, columns);
-        index += 1;
     }
     at
 }
