@@ -47,15 +47,12 @@ pub fn measure(rows: &Rows, looks: &Looks, tokens: &[u8], marks: &mut [u16]) -> 
 {
     let mut pen = plan_pen::start();
     let mut total = 0;
-    let mut index = 0;
-    while index < tokens.len() {
-        let token = tokens[index];
-        let width = rows::width(rows, token);
-        let gap = plan_pen::gap_before(looks, pen, token, width);
+    for (index, token) in tokens.iter().enumerate() {
+        let width = rows::width(rows, *token);
+        let gap = plan_pen::gap_before(looks, pen, *token, width);
         marks[index] = mark(gap);
         total += plan_pen::length_of(gap) + width;
-        pen = plan_pen::after(looks, pen, token, width, gap);
-        index += 1;
+        pen = plan_pen::after(looks, pen, *token, width, gap);
     }
     total + 1
 }
@@ -64,13 +61,9 @@ fn put_spaces(area: &mut [u8], at: usize, count: usize) -> usize
     requires { at + count ≤ length area.old }
     ensures { Wrote area.old at (replicate count 32) area.new result }
 {
-    let mut next = at;
-    let mut written = 0;
-    while written < count {
-        next = text::put_byte(area, next, b' ');
-        written += 1;
-    }
-    next
+    let end = at + count;
+    area[at..end].fill(b' ');
+    end
 }
 
 fn put_gap(area: &mut [u8], at: usize, gap: Gap) -> usize
@@ -89,13 +82,8 @@ fn put_token(area: &mut [u8], at: usize, rows: &Rows, token: u8, width: usize) -
     requires token_lt_text_end { (token < text_end) × (width ≡ length (text_of token)) × (at + width ≤ length area.old) }
     ensures { Wrote area.old at (text_of token) area.new result }
 {
-    let mut next = at;
-    let mut index = 0;
-    while index < width {
-        next = text::put_byte(area, next, rows::byte_of(rows, token, index));
-        index += 1;
-    }
-    next
+    let row = rows::row(rows, token);
+    text::put_word(area, at, &row[1..1 + width])
 }
 
 // A gap, and spaces up to 41 bytes.
@@ -154,11 +142,9 @@ pub fn lay_out(rows: &Rows, tokens: &[u8], marks: &[u16], area: &mut [u8], total
     ensures { area.new ≡ overwrite (laid_out tokens.now) area.old }
 {
     let mut at = 0;
-    let mut index = 0;
-    while index < tokens.len() {
+    for (index, token) in tokens.iter().enumerate() {
         let gap = gap_of(marks[index]);
-        at = put_next(rows, tokens[index], gap, area, at, total);
-        index += 1;
+        at = put_next(rows, *token, gap, area, at, total);
     }
     text::put_byte(area, at, b'\n');
 }
@@ -172,17 +158,14 @@ pub fn lay_within(rows: &Rows, looks: &Looks, tokens: &[u8], room: &mut [u8]) ->
 {
     let mut pen = plan_pen::start();
     let mut at = 0;
-    let mut index = 0;
-    while index < tokens.len() {
+    for token in tokens {
         if room.len() - at < 51 {
             return 0;
         }
-        let token = tokens[index];
-        let width = rows::width(rows, token);
-        let gap = plan_pen::gap_before(looks, pen, token, width);
-        at = put_wide(room, at, rows, token, gap, width);
-        pen = plan_pen::after(looks, pen, token, width, gap);
-        index += 1;
+        let width = rows::width(rows, *token);
+        let gap = plan_pen::gap_before(looks, pen, *token, width);
+        at = put_wide(room, at, rows, *token, gap, width);
+        pen = plan_pen::after(looks, pen, *token, width, gap);
     }
     text::put_byte(room, at, b'\n')
 }

@@ -99,15 +99,6 @@ pub fn width(rows: &Rows, token: u8) -> usize
     wide(rows[wide(token)][0])
 }
 
-// A byte of it.
-pub fn byte_of(rows: &Rows, token: u8, index: usize) -> u8
-    requires rows_value { rows.now ≡ text_rows }
-    requires token_lt_text_end { (token < text_end) × (index < length (text_of token)) }
-    ensures { result ≡ get_or (text_of token) index 0 }
-{
-    rows[wide(token)][index + 1]
-}
-
 // The whole row of a token.
 pub fn row(rows: &Rows, token: u8) -> [u8; 10]
     requires rows_value { rows.now ≡ text_rows }

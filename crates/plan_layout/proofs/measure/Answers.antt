@@ -1,11 +1,9 @@
-use Prim.Native.Nat.{ℕ, ◌+◌, ◌-◌, ◌*◌, ◌%◌, ◌≤◌, ◌<◌}
+use Prim.Native.Nat.{ℕ, ◌+◌, ◌≤◌, ◌<◌}
 use native.Mathlib.Nat.{zero-add}
 use native.Mathlib.Omega.{arith}
 use mathlib.Core.Path.{◌≡◌, refl, sym, ap, ◌∙◌}
 use mathlib.Core.List.{List, [], ◌∷◌, ◌++◌}
-use lib.ListN.{length, length-set, get_or, drop}
-use borrow.Author.Rules.{rules}
-use Rattle.plan_notation.specs.Tokens.{text_end}
+use lib.ListN.{length, length-set, drop}
 use Rattle.plan_notation.specs.Layout.{Pen, laid_from, laid_out}
 use Rattle.plan_notation.proofs.Widths.{few_bytes}
 use Rattle.plan_pen.specs.declared.Gap.{Gap}
@@ -14,7 +12,6 @@ use Rattle.plan_pen.proofs.PenLaws.{next_column, next_depth, next_last}
 use Rattle.plan_layout.specs.Inner.Marks.{text_to}
 use Rattle.plan_layout.proofs.LaidLaws.{gap_short, laid_length, laid_on, laid_none}
 use Rattle.plan_layout.proofs.MarkLaws.{text_more, few_more}
-use Rattle.plan_layout.proofs.measure.Invariants.{Marking}
 use Rattle.plan_layout.proofs.measure.Goals as goal
 use Rattle.plan_layout.proofs.measure.Goals.{After-length_of}
 

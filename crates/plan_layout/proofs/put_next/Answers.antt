@@ -1,13 +1,11 @@
 -- `put_next` meets its contract. Assumes nothing.
 use native.Mathlib.Omega.{arith}
-use mathlib.Core.Path.{sym, ap, ◌∙◌}
+use mathlib.Core.Path.{◌∙◌}
 use Rattle.text.proofs.Added.{added_more}
-use Rattle.plan_notation.proofs.Widths.{few_bytes}
 use lib.ListN.{length-append}
 use Rattle.plan_notation.specs.Tokens.{text_of}
 use Rattle.plan_pen.specs.Inner.Pens.{gap_bytes}
 use Rattle.plan_layout.proofs.Within.{within_exact, within_later}
-use borrow.Author.Rules.{rules}
 use Rattle.plan_layout.proofs.put_next.Goals as goal
 
 pub put_gap-next-requires : goal.put_gap-next-requires

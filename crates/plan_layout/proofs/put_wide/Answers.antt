@@ -3,7 +3,6 @@ use native.Mathlib.Omega.{arith}
 use mathlib.Core.Path.{◌∙◌}
 use Rattle.plan_layout.proofs.LaidLaws.{gap_short}
 use Rattle.plan_layout.proofs.Within.{within_later, within_more}
-use borrow.Author.Rules.{rules}
 use Rattle.plan_layout.proofs.put_wide.Goals as goal
 
 pub put_wide_gap-next-requires : goal.put_wide_gap-next-requires

@@ -3,7 +3,6 @@ use native.Mathlib.Omega.{arith}
 use Rattle.plan_notation.specs.Tokens.{text_of}
 use Rattle.plan_notation.proofs.Widths.{few_bytes}
 use Rattle.plan_layout.proofs.Within.{wide_token}
-use borrow.Author.Rules.{rules}
 use Rattle.plan_layout.proofs.put_wide_token.Goals as goal
 
 pub overflow_add-result : goal.overflow_add-result

@@ -3,7 +3,6 @@ use Prim.Native.Nat.{ℕ}
 use mathlib.Core.Path.{ap, ◌∙◌}
 use mathlib.Core.List.{List, []}
 use lib.ListN.{get_or}
-use borrow.Author.Rules.{rules}
 use Rattle.plan_layout.proofs.RowLaws.{row_is}
 use Rattle.plan_layout.proofs.rows.row.Goals as goal
 
