@@ -73,10 +73,10 @@ fn item(number: usize, word: usize) -> usize
 fn condition_row(tag: usize) -> usize
     ensures { (result ≡ condition_row tag) × (result < 28) }
 {
-    if tag < 13 {
-        return 21;
+    match tag {
+        13..=15 => 9 + tag,
+        _ => 21,
     }
-    if tag < 16 { 9 + tag } else { 21 }
 }
 
 // The row of a tag in a context.
@@ -109,9 +109,8 @@ fn push_items(stack: &mut [u16], top: usize, rows: &Rows, row: usize, word: usiz
     ensures { Pushed stack.old top (items_from word row 2 (row_number row 1)) stack.new result }
 {
     let mut next = top;
-    let mut left = rows::number(rows, row, 1);
-    while left > 0 {
-        left -= 1;
+    let items = rows::number(rows, row, 1);
+    for left in (0..items).rev() {
         let number = rows::number(rows, row, 2 + left);
         next = push(stack, next, item(number, word));
     }
@@ -163,10 +162,8 @@ pub fn put_fields(area: &mut [u8], at: usize, mask: usize, first: usize) -> usiz
     ensures { Wrote area.old at (fields_from mask first (32 - first)) area.new result }
 {
     let mut next = at;
-    let mut field = first;
-    while field < 32 {
+    for field in first..32 {
         next = put_field(area, next, mask, field);
-        field += 1;
     }
     next
 }
@@ -193,7 +190,7 @@ struct Standing {
 fn is_new(context: usize, tag: usize) -> bool
     ensures { result ≡ is_new context tag }
 {
-    if context < 4 { tag == tags::NEW } else { false }
+    context < 4 && tag == tags::NEW
 }
 
 // The item on top: a token is written, a `new` too, any other term gives way to the items of its row.
@@ -228,7 +225,7 @@ fn step(
         };
     }
     let next = push_row(stack, below, rows, row_as(context, tag), word, context % 4);
-    Standing { top: next, at: at }
+    Standing { top: next, at }
 }
 
 // The tree of an expression, behind the tokens that are there, by the rows and a stack that are lent: each item on it has a token, and a row eight items at

@@ -6,6 +6,3 @@ use Rattle.plan_layout.proofs.lay_out.Given as goal
 
 abbrev pub invariant-loop-index : goal.invariant-loop-index
 invariant-loop-index l = (l.index ≤ length l.tokens) × WroteWithin l.initial.area 0 (text_to l.tokens l.marks l.index) l.area l.at l.total
-
-abbrev pub decreases-loop-index : goal.decreases-loop-index
-decreases-loop-index l = length l.tokens - l.index

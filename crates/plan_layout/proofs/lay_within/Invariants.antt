@@ -18,6 +18,3 @@ invariant-loop-token l =
     × (l.pen.last ≤ text_end)
     × (length l.room ≡ length l.initial.room)
     × (laid_out l.tokens ≡ take l.at l.room ++ laid_from (pen_of l.pen) (drop l.token-index l.tokens))
-
-abbrev pub decreases-loop-token : goal.decreases-loop-token
-decreases-loop-token l = length l.tokens - l.token-index

@@ -25,6 +25,3 @@ invariant-loop-index l =
     × (l.total + length (laid_from (pen_of l.pen) (drop l.index l.tokens)) ≡ length (laid_out l.tokens))
     × Marking l.tokens l.marks (pen_of l.pen) l.index (length l.initial.marks)
     × (l.pen.last ≤ text_end)
-
-abbrev pub decreases-loop-index : goal.decreases-loop-index
-decreases-loop-index l = length l.tokens - l.index

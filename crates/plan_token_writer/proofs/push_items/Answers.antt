@@ -1,16 +1,15 @@
-use Prim.Native.Nat.{ℕ, ◌+◌, ◌-◌, ◌≤◌}
+use Prim.Native.Nat.{ℕ, ◌+◌, ◌-◌}
 use native.Mathlib.Omega.{arith}
 use mathlib.Core.Path.{sym, ap, ◌∙◌}
 use mathlib.Core.List.{[], ◌∷◌}
-use Rattle.plan_token_writer.specs.Inner.Items.{item_of, row_number, items_from, Pushed}
+use Rattle.plan_token_writer.specs.Inner.Items.{item_of, row_number}
 use Rattle.plan_token_writer.proofs.Operands.{few_items, items_back, items_none, items_whole, items_length}
 use Rattle.plan_token_writer.proofs.Stack.{pushed_none, pushed_more, pushed_as}
-use borrow.Author.Rules.{rules}
 use Rattle.plan_token_writer.proofs.push_items.Goals as goal
 
 pub loop-left-init : goal.loop-left-init
 loop-left-init c =
-    let e = c.number-left.ensures.0 in
+    let e = c.number-items.ensures.0 in
     (omega (arith, e), rw e (pushed_as (sym (items_none _ _ _)) (pushed_none _ _)))
 
 pub number-number-requires : goal.number-number-requires

@@ -4,7 +4,6 @@ use mathlib.Core.Path.{◌∙◌}
 use Rattle.plan_token_writer.specs.Inner.Items.{row_number}
 use Rattle.plan_token_writer.proofs.Operands.{few_items, items_length, in_parentheses, without}
 use Rattle.plan_token_writer.proofs.Stack.{pushed_more, pushed_as}
-use borrow.Author.Rules.{rules}
 use Rattle.plan_token_writer.proofs.push_row.Goals as goal
 
 pub push_items-next-requires : goal.push_items-next-requires

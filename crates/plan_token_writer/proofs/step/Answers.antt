@@ -1,9 +1,7 @@
 -- `step` meets its contract, by the kind of the item on top. Assumes nothing.
-use Prim.Native.Nat.{ℕ, ◌+◌, ◌-◌, ◌*◌, ◌%◌, ◌≤◌, ◌<◌}
+use Prim.Native.Nat.{◌-◌}
 use native.Mathlib.Omega.{arith}
-use mathlib.Core.Path.{◌≡◌}
-use mathlib.Core.List.{[], ◌∷◌}
-use lib.ListN.{length}
+use mathlib.Core.List.{[]}
 use Rattle.plan_token_writer.proofs.Stepping.{of_token, room, within, written_step, new_item, new_some, row_item}
 use borrow.Author.Rules.{rules}
 use Rattle.plan_token_writer.proofs.step.Goals as goal

@@ -1,11 +1,6 @@
 use native.Mathlib.Omega.{arith}
-use mathlib.Core.Path.{◌≡◌, refl, ◌∙◌}
-use lib.ListN.{length}
-use Rattle.plan_packed.specs.Inner.Steps.{tree_in}
-use Rattle.plan_notation.specs.Shown.{loose, shown}
-use Rattle.plan_token_writer.specs.Inner.Items.{stack_of, weight}
-use Rattle.plan_token_writer.proofs.Writing.{Writing, starts, going, goes_on_lem, ends}
-use borrow.Author.Rules.{rules}
+use mathlib.Core.Path.{refl, ◌∙◌}
+use Rattle.plan_token_writer.proofs.Writing.{starts, going, goes_on_lem, ends}
 use Rattle.plan_token_writer.proofs.write_expression.Goals as goal
 
 pub loop-top-init : goal.loop-top-init

@@ -4,7 +4,6 @@ use mathlib.Core.List.{List, []}
 use Prim.Native.Nat.{ℕ}
 use lib.ListN.{get_or}
 use Rattle.plan_token_writer.specs.Inner.Items.{row_number}
-use borrow.Author.Rules.{rules}
 use Rattle.plan_token_writer.proofs.rows.number.Goals as goal
 
 pub returns : goal.returns
