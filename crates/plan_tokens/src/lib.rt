@@ -1,7 +1,7 @@
 // The tokens of a plan: its version, its volatile fields, main, and the other procedures.
 #![tactic(auto)]
 
-ghost use Rattle.std.specs.Prelude.{◌+◌, ◌-◌, ◌≤◌, ◌<◌, ◌≡◌, length};
+ghost use Rattle.std.specs.Prelude.{◌+◌, ◌-◌, ◌≤◌, ◌<◌, ◌≡◌, [], length, MatchOption};
 ghost use Rattle.plan_packed.specs.Format.{version, fields_from, procedures};
 ghost use Rattle.plan_packed.specs.Trees.{program_of};
 ghost use Rattle.plan_notation.specs.Shown.{volatile_tokens, shown_plan};
@@ -14,18 +14,16 @@ use plan_notation::tokens;
 use plan_token_writer::rows::Rows;
 use plan_token_writer::{put_fields, rows, write_expression};
 
-// The first field from field 1 on that the mask has, or 32.
-fn first_field(mask: usize) -> usize
-    ensures { FirstField mask result }
+// The first field from field 1 on that the mask has.
+fn first_field(mask: usize) -> Option<usize>
+    ensures { MatchOption result (fields_from mask 1 31 ≡ []) (FirstField mask) }
 {
-    let mut field = 1;
-    while field < 32 {
+    for field in 1..32 {
         if plan_token_writer::bit(mask, field) == 1 {
-            return field;
+            return Some(field);
         }
-        field += 1;
     }
-    field
+    None
 }
 
 // `volatile` with the fields behind field 0, if there are any.
@@ -33,12 +31,13 @@ fn put_volatiles(area: &mut [u8], at: usize, mask: usize) -> usize
     requires { at + length (volatile_tokens (fields_from mask 1 31)) ≤ length area.old }
     ensures { Wrote area.old at (volatile_tokens (fields_from mask 1 31)) area.new result }
 {
-    let first = first_field(mask);
-    if first == 32 {
-        return at;
+    match first_field(mask) {
+        Some(first) => {
+            let next = text::put_byte(area, at, tokens::VOLATILE as u8);
+            put_fields(area, next, mask, first)
+        }
+        None => at,
     }
-    let next = text::put_byte(area, at, tokens::VOLATILE as u8);
-    put_fields(area, next, mask, first)
 }
 
 // `procedure 1 (2) =`.
@@ -106,10 +105,8 @@ fn put_procedures(
     ensures { Wrote area.old from (procedures_behind plan.now) area.new result }
 {
     let mut at = from;
-    let mut procedure = 1;
-    while procedure < count {
+    for procedure in 1..count {
         at = put_procedure(plan, words, rows, stack, area, at, procedure);
-        procedure += 1;
     }
     at
 }

@@ -4,7 +4,6 @@ use mathlib.Core.Path.{◌∙◌}
 use Rattle.text.proofs.Added.{added_more, added_as}
 use Rattle.plan_tokens.proofs.Parts.{some, sized, in_order, tree_same, root_inside, version_small, room_for_header, room_for_main, room_for_others}
 use Rattle.plan_tokens.proofs.Parts.{main_wrote, whole_is}
-use borrow.Author.Rules.{rules}
 use Rattle.plan_tokens.proofs.put_plan.Goals as goal
 
 pub procedures-count-requires : goal.procedures-count-requires

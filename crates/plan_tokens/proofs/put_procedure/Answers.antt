@@ -7,7 +7,6 @@ use Rattle.plan_notation.specs.Shown.{loose, shown}
 use Rattle.text.proofs.Added.{added_more, added_as}
 use Rattle.plan_tokens.specs.Inner.Begun.{procedure_head, procedure_alone}
 use Rattle.plan_tokens.proofs.Parts.{few, sized, in_order, tree_same, root_inside, parameters_small, alone_length, head_length}
-use borrow.Author.Rules.{rules}
 use Rattle.plan_tokens.proofs.put_procedure.Goals as goal
 
 pub parameters-parameters-requires : goal.parameters-parameters-requires
