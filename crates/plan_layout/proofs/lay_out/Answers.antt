@@ -26,7 +26,7 @@ put_next-at-requires c =
     let e = c.gap_of-gap.ensures in
     let t = c.loop-index-test.true in
     let r = text_room c.args.tokens.now c.args.marks.now l.index t c.requires.rows_value.2 in record {
-      rows_value = (c.requires.rows_value.0, c.requires.rows_value.1 l.index, rw e (c.requires.rows_value.2.few l.index t));
+      token_value = (c.requires.rows_value.1 l.index, rw e (c.requires.rows_value.2.few l.index t));
       token_bound = (
         rw e (omega (arith, r, l.invariant.1.next, c.requires.tokens_in_bounds.1)),
         omega (arith, c.requires.tokens_in_bounds.2, l.invariant.1.kept),

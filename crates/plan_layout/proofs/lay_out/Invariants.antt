@@ -1,5 +1,5 @@
 -- `lay_out` meets its contract. The invariant: the text of the first tokens begins the area. Assumes nothing.
-use Prim.Native.Nat.{◌-◌, ◌≤◌}
+use Prim.Native.Nat.{◌≤◌}
 use lib.ListN.{length}
 use Rattle.plan_layout.specs.Inner.Marks.{text_to, WroteWithin}
 use Rattle.plan_layout.proofs.lay_out.Given as goal

@@ -31,57 +31,35 @@ pub returns-then-room-at-lt51 : goal.returns-then-room-at-lt51
 returns-then-room-at-lt51 c = record { within = omega arith; laid = λ h. absurd (omega arith) }
 
 pub width-width-requires : goal.width-width-requires
-width-width-requires c = record { rows_value = c.requires.rows_value.0; token_lt_text_end = c.requires.rows_value.2 c.loop-token.token-index }
+width-width-requires c = c.requires.rows_value.2 c.loop-token.token-index
 
-pub gap_before-gap-requires : goal.gap_before-gap-requires
-gap_before-gap-requires c =
-    let l = c.loop-token in
-    let k = c.requires.rows_value.2 l.token-index in record { looks_value = (c.requires.rows_value.1, k, l.invariant.4); width_value = (c.width-width.ensures, omega (arith, c.width-width.ensures, few_bytes _ k), l.invariant.2) }
-
-pub put_wide-at-requires : goal.put_wide-at-requires
-put_wide-at-requires c =
-    let l = c.loop-token in record {
-      rows_value = c.requires.rows_value.0;
-      token_lt_text_end = (
-        c.requires.rows_value.2 l.token-index,
-        c.width-width.ensures,
-        c.gap_before-gap.ensures.few,
-        omega (
-          arith,
-          l.invariant.1,
-          c.if-room-at-lt51.false,
-        ),
-      );
-    }
-
-pub after-pen-requires : goal.after-pen-requires
-after-pen-requires c =
+pub pass-gap-requires : goal.pass-gap-requires
+pass-gap-requires c =
     let l = c.loop-token in
     let w = c.width-width.ensures in
     let k = c.requires.rows_value.2 l.token-index in record {
-      looks_value = (c.requires.rows_value.1, k);
-      width_value = (
-        w,
-        omega (arith, w, few_bytes _ k),
-        l.invariant.2,
-        omega (
-          arith,
-          l.invariant.3,
-          c.loop-token-test.true,
-          c.requires.tokens_len_bound.0,
-        ),
-      );
-      parts = c.gap_before-gap.ensures;
+      token_value = (k, l.invariant.4);
+      width_value = (w, omega (arith, w, few_bytes _ k));
+      place = (l.invariant.2, omega (arith, l.invariant.3, c.loop-token-test.true, c.requires.tokens_len_bound.0));
     }
+
+pub put_wide-at-requires : goal.put_wide-at-requires
+put_wide-at-requires c =
+    let l = c.loop-token in (
+      c.requires.rows_value.2 l.token-index,
+      c.width-width.ensures,
+      c.pass-gap.ensures.gap.few,
+      omega (arith, l.invariant.1, c.if-room-at-lt51.false),
+    )
 
 pub loop-token-preserved : goal.loop-token-preserved
 loop-token-preserved c =
     let l = c.loop-token in
     let t = c.loop-token-test.true in
     let ts = c.args.tokens.now in
-    let g = c.gap_before-gap in
+    let g = c.pass-gap in
     let w = c.put_wide-at.ensures in
-    let e = c.after-pen.ensures in
+    let e = c.pass-gap.ensures.after in
     let k = c.requires.rows_value.2 l.token-index in
     let n = length-append (gap_bytes g.result) (text_of (get_or ts l.token-index 0)) in
     let done = take l.at l.room in (
@@ -91,7 +69,7 @@ loop-token-preserved c =
         w.next,
         w.kept,
         n,
-        gap_short g.result g.ensures.few,
+        gap_short g.result g.ensures.gap.few,
         few_bytes _ k,
         l.invariant.1,
         c.if-room-at-lt51.false,
@@ -100,8 +78,8 @@ loop-token-preserved c =
       omega (arith, l.invariant.3, next_depth _ _ _ e),
       next_last _ _ _ e k,
       w.kept ∙ l.invariant.5,
-      laid_on ts l.token-index (pen_of l.pen) t g.result g.ensures (pen_of c.after-pen.result) e _ done l.invariant.6
-          ∙ ap (λ (xs : List ℕ). xs ++ laid_from (pen_of c.after-pen.result) (drop (l.token-index + 1) ts))
+      laid_on ts l.token-index (pen_of l.pen) t g.result g.ensures.gap (pen_of c.pass-gap.new.self) e _ done l.invariant.6
+          ∙ ap (λ (xs : List ℕ). xs ++ laid_from (pen_of c.pass-gap.new.self) (drop (l.token-index + 1) ts))
           (append_assoc done (gap_bytes g.result) (text_of (get_or ts l.token-index 0)) ∙ sym w.text),
     )
 

@@ -1,6 +1,6 @@
 -- `lay_within` meets its contract. The invariant: the text is what is written, and what the tokens that are left come to; a token has at most 50 bytes. Assumes
 -- nothing.
-use Prim.Native.Nat.{◌-◌, ◌≤◌, ◌<◌}
+use Prim.Native.Nat.{◌≤◌, ◌<◌}
 use mathlib.Core.Path.{◌≡◌}
 use mathlib.Core.List.{◌++◌}
 use lib.ListN.{length, take, drop}

@@ -8,9 +8,9 @@ use Rattle.plan_layout.proofs.put_token.Goals as goal
 
 pub slice_bounds-put_word-end : goal.slice_bounds-put_word-end
 slice_bounds-put_word-end c =
-    let t = c.requires.token_lt_text_end in omega (arith, t.1, few_bytes _ t.0)
+    let t = c.requires in omega (arith, t.1, few_bytes _ t.0)
 
 pub returns : goal.returns
 returns c =
-    let t = c.requires.token_lt_text_end in
+    let t = c.requires in
     added_as (row_text (text_of c.args.token) _ _ c.row-row.ensures t.1) c.put_word.ensures

@@ -4,11 +4,11 @@ use mathlib.Core.Path.{ap, ◌∙◌}
 use mathlib.Core.List.{List, []}
 use lib.ListN.{get_or}
 use Rattle.plan_layout.proofs.RowLaws.{first_is}
-use Rattle.plan_layout.proofs.rows.width.Goals as goal
+use Rattle.plan_layout.proofs.rows.TextRows.width.Goals as goal
 
 pub returns : goal.returns
 returns c =
     c.wide-2.ensures.0
-    ∙ ap (λ (k : ℕ). get_or (get_or c.args.rows.now k []) 0 0) c.wide.ensures.0
-    ∙ ap (λ (l : List (List ℕ)). get_or (get_or l c.args.token []) 0 0) c.requires.rows_value
-    ∙ first_is c.args.token c.requires.token_lt_text_end
+    ∙ ap (λ (k : ℕ). get_or (get_or c.self.inside.table k []) 0 0) c.wide.ensures.0
+    ∙ ap (λ (l : List (List ℕ)). get_or (get_or l c.args.token []) 0 0) c.self.invariant
+    ∙ first_is c.args.token c.requires
