@@ -105,13 +105,13 @@ fn push(stack: &mut [u16], top: usize, item: usize) -> usize
 
 // The items of a row, the first on top.
 fn push_items(stack: &mut [u16], top: usize, rows: &Rows, row: usize, word: usize) -> usize
-    requires { (rows.now ≡ item_rows) × (row < 28) × (top + 6 ≤ length stack.old) }
+    requires { (row < 28) × (top + 6 ≤ length stack.old) }
     ensures { Pushed stack.old top (items_from word row 2 (row_number row 1)) stack.new result }
 {
     let mut next = top;
-    let items = rows::number(rows, row, 1);
+    let items = rows.number(row, 1);
     for left in (0..items).rev() {
-        let number = rows::number(rows, row, 2 + left);
+        let number = rows.number(row, 2 + left);
         next = push(stack, next, item(number, word));
     }
     next
@@ -126,10 +126,10 @@ fn push_row(
     word: usize,
     level: usize,
 ) -> usize
-    requires { (rows.now ≡ item_rows) × (row < 28) × (top + 8 ≤ length stack.old) }
+    requires { (row < 28) × (top + 8 ≤ length stack.old) }
     ensures { Pushed stack.old top (row_items level word row) stack.new result }
 {
-    if rows::number(rows, row, 0) < level {
+    if rows.number(row, 0) < level {
         let inside = push(stack, top, TOKEN + tokens::CLOSING);
         let next = push_items(stack, inside, rows, row, word);
         return push(stack, next, TOKEN + tokens::OPENING);
@@ -198,34 +198,30 @@ fn step(
     words: &[usize; 1024],
     rows: &Rows,
     stack: &mut [u16],
-    top: usize,
+    standing: Standing,
     area: &mut [u8],
-    at: usize,
 ) -> Standing
-    requires { Running words.now rows.now stack.old top area.old at }
-    ensures { Stepped words.now area.old at stack.old top area.new stack.new result }
+    requires { Running words.now stack.old standing.top area.old standing.at }
+    ensures { Stepped words.now area.old standing.at stack.old standing.top area.new stack.new result }
 {
-    let below = top - 1;
-    let item = stack[below] as usize;
+    let top = standing.top - 1;
+    let item = stack[top] as usize;
     if item >= TOKEN {
-        let next = text::put_byte(area, at, (item % 256) as u8);
-        return Standing {
-            top: below,
-            at: next,
-        };
+        let at = text::put_byte(area, standing.at, (item % 256) as u8);
+        return Standing { top, at };
     }
     let context = item / 1024;
     let word = words[item % 1024];
     let tag = plan_operands::tag(word);
     if is_new(context, tag) {
-        let next = put_new(area, at, plan_operands::mask_of(word));
-        return Standing {
-            top: below,
-            at: next,
-        };
+        let at = put_new(area, standing.at, plan_operands::mask_of(word));
+        return Standing { top, at };
     }
-    let next = push_row(stack, below, rows, row_as(context, tag), word, context % 4);
-    Standing { top: next, at }
+    let top = push_row(stack, top, rows, row_as(context, tag), word, context % 4);
+    Standing {
+        top,
+        at: standing.at,
+    }
 }
 
 // The tree of an expression, behind the tokens that are there, by the rows and a stack that are lent: each item on it has a token, and a row eight items at
@@ -239,16 +235,14 @@ pub fn write_expression(
     from: usize,
 ) -> usize
     requires ordered { Ordered words.now × (root < 1024) }
-    requires rows_value { (rows.now ≡ item_rows) × (length area.old + 8 ≤ length stack.old) }
+    requires stack_size { length area.old + 8 ≤ length stack.old }
     requires root_in_bounds { from + length (shown loose (tree_in words.now root)) ≤ length area.old }
     ensures { Wrote area.old from (shown loose (tree_in words.now root)) area.new result }
 {
-    let mut top = push(stack, 0, root);
-    let mut at = from;
-    while top > 0 {
-        let next = step(words, rows, stack, top, area, at);
-        top = next.top;
-        at = next.at;
+    let top = push(stack, 0, root);
+    let mut standing = Standing { top, at: from };
+    while standing.top > 0 {
+        standing = step(words, rows, stack, standing, area);
     }
-    at
+    standing.at
 }

@@ -6,7 +6,6 @@ ghost use Rattle.plan_packed.specs.Format.{version, fields_from, procedures};
 ghost use Rattle.plan_packed.specs.Trees.{program_of};
 ghost use Rattle.plan_notation.specs.Shown.{volatile_tokens, shown_plan};
 ghost use Rattle.text.specs.Inner.Wrote.{Wrote};
-ghost use Rattle.plan_token_writer.specs.Inner.Items.{item_rows};
 ghost use Rattle.plan_tokens.specs.Inner.Begun.{Given, procedure_head, procedure_alone, header_tokens, procedures_behind, FirstField};
 
 use plan_header::layout;
@@ -67,7 +66,7 @@ fn put_procedure(
     at: usize,
     procedure: usize,
 ) -> usize
-    requires given { Given plan.now words.now × (rows.now ≡ item_rows) × (length area.old + 8 ≤ length stack.old) }
+    requires given { Given plan.now words.now × (length area.old + 8 ≤ length stack.old) }
     requires procedure_bound { (procedure < procedures plan.now) × (at + length (procedure_alone plan.now procedure) ≤ length area.old) }
     ensures { Wrote area.old at (procedure_alone plan.now procedure) area.new result }
 {
@@ -99,7 +98,7 @@ fn put_procedures(
     from: usize,
     count: usize,
 ) -> usize
-    requires given { Given plan.now words.now × (rows.now ≡ item_rows) × (length area.old + 8 ≤ length stack.old) }
+    requires given { Given plan.now words.now × (length area.old + 8 ≤ length stack.old) }
     requires count_value { count ≡ procedures plan.now }
     requires plan_in_bounds { from + length (procedures_behind plan.now) ≤ length area.old }
     ensures { Wrote area.old from (procedures_behind plan.now) area.new result }

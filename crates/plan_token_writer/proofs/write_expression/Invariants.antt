@@ -7,9 +7,9 @@ use Rattle.plan_token_writer.specs.Inner.Items.{stack_of, weight}
 use Rattle.plan_token_writer.proofs.Writing.{Writing}
 use Rattle.plan_token_writer.proofs.write_expression.Given as goal
 
-abbrev pub invariant-loop-top : goal.invariant-loop-top
-invariant-loop-top l =
-    Writing l.words (shown loose (tree_in l.words l.root)) l.initial.area l.from l.stack l.top l.area l.at × (length l.stack ≡ length l.initial.stack)
+abbrev pub invariant-loop-standing : goal.invariant-loop-standing
+invariant-loop-standing l =
+    Writing l.words (shown loose (tree_in l.words l.root)) l.initial.area l.from l.stack l.standing.top l.area l.standing.at × (length l.stack ≡ length l.initial.stack)
 
-abbrev pub decreases-loop-top : goal.decreases-loop-top
-decreases-loop-top l = weight l.words (stack_of l.stack l.top)
+abbrev pub decreases-loop-standing : goal.decreases-loop-standing
+decreases-loop-standing l = weight l.words (stack_of l.stack l.standing.top)

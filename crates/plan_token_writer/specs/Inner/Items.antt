@@ -188,9 +188,8 @@ unfolding tokens_in key_of
 weight words is = 1025 * length (tokens_in words is) + key_of is
 
 -- what a step is given
-pub record Running (words : List ℕ) (rows : List (List ℕ)) (stack : List ℕ) (top : ℕ) (area : List ℕ) (at : ℕ) : Type 0 where
+pub record Running (words stack : List ℕ) (top : ℕ) (area : List ℕ) (at : ℕ) : Type 0 where
   pub ordered : Ordered words
-  pub table : rows ≡ item_rows
   pub some : 0 < top
   pub size : length area + 8 ≤ length stack
   pub contexts : InContext (stack_of stack top)

@@ -21,7 +21,7 @@ pub write_expression-behind-requires : goal.write_expression-behind-requires
 write_expression-behind-requires c =
     let g = c.requires.given.0 in
     let p = c.put_header-main.ensures in
-    let q = c.root-root.ensures in record { ordered = (in_order _ _ g, rw q (root_inside _ _ g 0 (some _ _ g))); rows_value = (c.all-rows.ensures, omega (arith, c.requires.area_in_bounds, p.kept)); root_in_bounds = rw q (rw (tree_same _ _ g 0) (rw p.kept (room_for_main _ _ g _ c.requires.given.1 _ p.next))) }
+    let q = c.root-root.ensures in record { ordered = (in_order _ _ g, rw q (root_inside _ _ g 0 (some _ _ g))); stack_size = omega (arith, c.requires.area_in_bounds, p.kept); root_in_bounds = rw q (rw (tree_same _ _ g 0) (rw p.kept (room_for_main _ _ g _ c.requires.given.1 _ p.next))) }
 
 pub put_procedures-requires : goal.put_procedures-requires
 put_procedures-requires c =
@@ -30,7 +30,6 @@ put_procedures-requires c =
     let q = main_wrote _ _ g c.root-root.ensures c.write_expression-behind.ensures in record {
       given = (
         g,
-        c.all-rows.ensures,
         omega
             (arith, c.requires.area_in_bounds, p.kept, q.kept),
       );

@@ -29,7 +29,7 @@ write_expression-requires c =
     let p = c.put_head-next.ensures in
     let q = c.root-root.ensures in record {
       ordered = (in_order _ _ g, rw q (root_inside _ _ g _ c.requires.procedure_bound.0));
-      rows_value = (c.requires.given.1, omega (arith, c.requires.given.2, p.kept));
+      stack_size = omega (arith, c.requires.given.1, p.kept);
       root_in_bounds = rw q (rw (tree_same _ _ g _)
           (omega (
             arith,

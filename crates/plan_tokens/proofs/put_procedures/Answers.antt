@@ -12,7 +12,7 @@ pub put_procedure-at-requires : goal.put_procedure-at-requires
 put_procedure-at-requires c =
     let g = c.requires.given.0 in
     let l = c.loop-procedure in
-    let h = rw c.requires.count_value at c.loop-procedure-test.true in record { given = (g, c.requires.given.1, omega (arith, c.requires.given.2, l.invariant.0, (l.invariant.1 g).wrote.kept)); procedure_bound = (h, room_for_one _ _ g (l.invariant.1 g) h c.requires.plan_in_bounds) }
+    let h = rw c.requires.count_value at c.loop-procedure-test.true in record { given = (g, omega (arith, c.requires.given.1, l.invariant.0, (l.invariant.1 g).wrote.kept)); procedure_bound = (h, room_for_one _ _ g (l.invariant.1 g) h c.requires.plan_in_bounds) }
 
 pub loop-procedure-preserved : goal.loop-procedure-preserved
 loop-procedure-preserved c =
