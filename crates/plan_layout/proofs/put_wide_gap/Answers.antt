@@ -2,7 +2,6 @@
 use native.Mathlib.Omega.{arith}
 use mathlib.Core.Path.{◌∙◌}
 use Rattle.plan_layout.proofs.Within.{wide_feed, wide_plain}
-use borrow.Author.Rules.{rules}
 use Rattle.plan_layout.proofs.put_wide_gap.Goals as goal
 
 pub put_byte-next-requires : goal.put_byte-next-requires

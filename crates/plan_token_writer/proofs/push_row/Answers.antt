@@ -4,13 +4,12 @@ use mathlib.Core.Path.{◌∙◌}
 use Rattle.plan_token_writer.specs.Inner.Items.{row_number}
 use Rattle.plan_token_writer.proofs.Operands.{few_items, items_length, in_parentheses, without}
 use Rattle.plan_token_writer.proofs.Stack.{pushed_more, pushed_as}
-use borrow.Author.Rules.{rules}
 use Rattle.plan_token_writer.proofs.push_row.Goals as goal
 
 pub push_items-next-requires : goal.push_items-next-requires
 push_items-next-requires c =
     let p = c.push-inside.ensures in
-    (c.requires.0, c.requires.1, omega (arith, c.requires.2, p.top, p.kept))
+    (c.requires.0, omega (arith, c.requires.1, p.top, p.kept))
 
 pub push-requires : goal.push-requires
 push-requires c =
@@ -18,12 +17,12 @@ push-requires c =
     let q = c.push_items-next.ensures in (
       omega (
         arith,
-        c.requires.2,
+        c.requires.1,
         p.top,
         p.kept,
         q.top,
         q.kept,
-        few_items _ c.requires.1,
+        few_items _ c.requires.0,
         items_length c.args.word c.args.row 2 (row_number c.args.row 1),
       ),
       omega arith,

@@ -4,7 +4,6 @@ use mathlib.Core.Path.{sym, ap, ◌∙◌}
 use lib.ListN.{length}
 use Rattle.text.proofs.Added.{added_none, added_as}
 use Rattle.plan_token_writer.proofs.Fields.{field_there, field_not_there}
-use borrow.Author.Rules.{rules}
 use Rattle.plan_token_writer.proofs.put_field.Goals as goal
 
 pub put_byte-requires : goal.put_byte-requires

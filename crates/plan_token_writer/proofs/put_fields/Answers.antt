@@ -1,11 +1,7 @@
-use Prim.Native.Nat.{◌-◌, ◌≤◌}
 use native.Mathlib.Omega.{arith}
 use mathlib.Core.Path.{◌≡◌, sym}
-use Rattle.plan_packed.specs.Format.{fields_from}
-use Rattle.text.specs.Inner.Wrote.{Wrote}
 use Rattle.text.proofs.Added.{added_none, added_more, added_as}
 use Rattle.plan_token_writer.proofs.Fields.{one_field, fields_within, no_field}
-use borrow.Author.Rules.{rules}
 use Rattle.plan_token_writer.proofs.put_fields.Goals as goal
 
 pub loop-field-init : goal.loop-field-init

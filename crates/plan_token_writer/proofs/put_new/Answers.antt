@@ -3,7 +3,6 @@ use native.Mathlib.Omega.{arith}
 use mathlib.Core.Path.{◌∙◌}
 use Rattle.text.proofs.Added.{added_more, added_as}
 use Rattle.plan_token_writer.proofs.Fields.{new_parts, new_length}
-use borrow.Author.Rules.{rules}
 use Rattle.plan_token_writer.proofs.put_new.Goals as goal
 
 pub put_byte-next-requires : goal.put_byte-next-requires

@@ -1,7 +1,6 @@
 -- `put_head` meets its contract. Assumes nothing.
 use native.Mathlib.Omega.{arith}
 use Rattle.plan_tokens.specs.Inner.Begun.{procedure_head}
-use borrow.Author.Rules.{rules}
 use Rattle.plan_tokens.proofs.put_head.Goals as goal
 
 pub put_word-requires : goal.put_word-requires

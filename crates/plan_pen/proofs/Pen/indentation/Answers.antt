@@ -1,8 +1,7 @@
 -- `indentation` meets its contract. Assumes nothing.
 use native.Mathlib.Omega.{arith}
-use borrow.Author.Rules.{rules}
 use Rattle.plan_notation.specs.Layout.{indentation}
-use Rattle.plan_pen.proofs.indentation.Goals as goal
+use Rattle.plan_pen.proofs.Pen.indentation.Goals as goal
 
 pub returns-then-depth-lt20 : goal.returns-then-depth-lt20
 unfolding indentation
