@@ -42,12 +42,10 @@ pub fn put_arrows(
         (arrow_texts (log_of log.now) (arrows_of starts.now ends.now count)) area.new result }
 {
     let mut next = at;
-    let mut index = 0;
-    while index < count {
+    for index in 0..count {
         let start = starts[index] as usize;
         let end = ends[index] as usize;
         next = put_between(area, next, log, b"arrow", start, end);
-        index += 1;
     }
     next
 }

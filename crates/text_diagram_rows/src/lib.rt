@@ -86,11 +86,9 @@ pub fn put_rows(area: &mut [u8], at: usize, log: &[u8], lanes: usize, race: Race
         (row_texts lanes (race_of race) 0 (log_of log.now)) area.new result }
 {
     let mut next = at;
-    let mut index = 0;
-    while index < log.len() / 3 {
+    for index in 0..log.len() / 3 {
         let columns = log_packing::columns_at(log, index);
         next = put_row(area, next, lanes, race, index, columns);
-        index += 1;
     }
     next
 }

@@ -4,7 +4,6 @@ use Rattle.log_records.specs.Packed.{log_of}
 use Rattle.text.specs.Text.{ascii}
 use Rattle.text_diagram_elements.proofs.Together.{drawn_none, drawn_as}
 use Rattle.text_diagram_elements.proofs.Races.{race_line, no_race}
-use borrow.Author.Rules.{rules}
 use Rattle.text_diagram_links.proofs.put_race.Goals as goal
 
 pub put_between-requires : goal.put_between-requires

@@ -1,6 +1,5 @@
 -- `text_diagram::rows::in_race` meets its contract. Assumes nothing.
 use Rattle.text_diagram_elements.proofs.Races.{is_write_lem, is_access_lem}
-use borrow.Author.Rules.{rules}
 use Rattle.text_diagram_rows.proofs.in_race.Goals as goal
 
 pub returns-then-index-write : goal.returns-then-index-write

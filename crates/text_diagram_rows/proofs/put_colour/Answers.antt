@@ -6,7 +6,6 @@ use Rattle.text.specs.Text.{ascii}
 use Rattle.text.proofs.Added.{added_as}
 use Rattle.text_diagram_elements.specs.Diagram.{race_of}
 use Rattle.text_diagram_elements.proofs.Races.{colour_is}
-use borrow.Author.Rules.{rules}
 use Rattle.text_diagram_rows.proofs.put_colour.Goals as goal
 
 pub returns-then-in_race : goal.returns-then-in_race
