@@ -18,12 +18,12 @@ returns-then-in_race c =
       short = omega (arith, c.put_word.ensures.next);
     }
 
-pub returns : goal.returns
+pub returns-else-in_race : goal.returns-else-in_race
 unfolding ascii
-returns c =
+returns-else-in_race c =
     record {
       wrote = added_as (colour_is (race_of c.args.race)
           c.args.index false (sym c.if-in_race.false
-          ∙ c.in_race.ensures)) c.put_word-2.ensures;
-      short = omega (arith, c.put_word-2.ensures.next);
+          ∙ c.in_race.ensures)) c.put_word-else-in_race.ensures;
+      short = omega (arith, c.put_word-else-in_race.ensures.next);
     }
