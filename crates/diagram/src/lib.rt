@@ -13,7 +13,7 @@ use judge::Judgement;
 use text_diagram_elements::Race;
 
 // Writes the text of a log's picture at the area's start, and returns its length. A record has at most seven arrows.
-fn put_picture(version: usize, log: &[u8], race: Race, area: &mut [u8]) -> usize
+fn put_picture(version: usize, log: &[u8], race: Option<Race>, area: &mut [u8]) -> usize
     requires { Roomy version log.now race (length area.old) }
     ensures { WroteArrows (version_of version) log.now race area.old area.new result }
 {
@@ -24,7 +24,7 @@ fn put_picture(version: usize, log: &[u8], race: Race, area: &mut [u8]) -> usize
 }
 
 // The answer to a log that is not refused: refusal 27 for an area that has no room for every picture of so many records.
-fn draw(version: usize, log: &[u8], race: Race, area: &mut [u8]) -> Answered
+fn draw(version: usize, log: &[u8], race: Option<Race>, area: &mut [u8]) -> Answered
     requires { Judged version log.now race }
     ensures { Pictured version log.now area.old (answered result) area.new }
 {
@@ -43,10 +43,10 @@ fn draw_race(version: usize, log: &[u8], access: usize, area: &mut [u8]) -> Answ
     ensures { Pictured version log.now area.old (answered result) area.new }
 {
     let earlier = text_judge_lines::search::last_conflict(version, log, access);
-    let race = Race::Between {
+    let race = Some(Race {
         write: earlier,
-        access: access,
-    };
+        access,
+    });
     draw(version, log, race, area)
 }
 
@@ -60,7 +60,7 @@ pub fn diagram(version: usize, log: &[u8], area: &mut [u8]) -> Answered
             number: number,
             place: place,
         },
-        Judgement::Ordered => draw(version, log, Race::Nowhere, area),
+        Judgement::Ordered => draw(version, log, None, area),
         Judgement::Unordered(index) => draw_race(version, log, index, area),
     }
 }

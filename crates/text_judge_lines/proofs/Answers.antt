@@ -1,7 +1,7 @@
 -- The text of a log by what the judge answers. Assumes nothing.
-use Prim.Native.Nat.{ℕ, ◌/◌, ◌≤◌}
+use Prim.Native.Nat.{ℕ, ◌≤◌}
 use native.Mathlib.Omega.{arith}
-use mathlib.Core.Path.{◌≡◌, refl, sym, ap, ◌∙◌, subst as along}
+use mathlib.Core.Path.{◌≡◌, sym, ap, ◌∙◌, subst as along}
 use mathlib.Core.List.{List, ◌++◌}
 use mathlib.Core.Option.{some, none}
 use lib.ListN.{length, drop}
@@ -11,8 +11,7 @@ use Rattle.log_records.specs.Packed.{record_at, log_of}
 use Rattle.log_records.specs.Record.{Record}
 use Rattle.log_records.specs.Refusals.{log_refusal}
 use Rattle.log_order.specs.Chains.{At}
-use Rattle.log_conflicts.specs.Conflicts.{Conflicting}
-use Rattle.log_conflicts.specs.Judge.{refused, named, Names, names_first, names_none, Answers, refuses, judges, AnswersTold, wrong_version, right_version}
+use Rattle.log_conflicts.specs.Judge.{refused, named, names_first, names_none, Answers, refuses, judges, AnswersTold, wrong_version, right_version}
 use Rattle.answers.specs.Answer.{Answer}
 use Rattle.log_packing.specs.declared.Columns.{Columns}
 use Rattle.log_packing.specs.Inner.Columns.{ReadAt}

@@ -4,7 +4,6 @@ use Rattle.log_conflicts.specs.Judge.{AnswersTold}
 use Rattle.judge.specs.declared.Judgement.{Judgement}
 use Rattle.judge.specs.Answer.{answered}
 use Rattle.diagram.proofs.Pictures.{refused_picture, ordered_judged, named_judged}
-use borrow.Author.Rules.{rules}
 use Rattle.diagram.proofs.diagram.Goals as goal
 
 pub draw-requires : goal.draw-requires

@@ -2,7 +2,6 @@
 use native.Mathlib.Omega.{arith}
 use Rattle.log_arrows.proofs.OfLog.{log_short}
 use Rattle.diagram.proofs.Pictures.{drawn, too_short}
-use borrow.Author.Rules.{rules}
 use Rattle.diagram.proofs.draw.Goals as goal
 
 pub overflow_mul-log : goal.overflow_mul-log

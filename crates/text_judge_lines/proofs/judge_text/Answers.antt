@@ -1,12 +1,11 @@
 -- `text_judge_lines::judge_text` meets its contract, by what the judge answers. Assumes nothing.
 use native.Mathlib.Omega.{arith}
-use mathlib.Core.Path.{◌≡◌, subst as along}
+use mathlib.Core.Path.{subst as along}
 use Rattle.log_conflicts.specs.Judge.{AnswersTold}
 use Rattle.judge.specs.declared.Judgement.{Judgement}
 use Rattle.judge.specs.Answer.{answered}
 use Rattle.text_judge_lines.specs.Told.{short}
 use Rattle.text_judge_lines.proofs.Answers.{refused_told, ordered_told, named_here, conflict_told}
-use borrow.Author.Rules.{rules}
 use Rattle.text_judge_lines.proofs.judge_text.Goals as goal
 
 pub returns-then-area-lt200 : goal.returns-then-area-lt200
