@@ -9,7 +9,6 @@ ghost use Rattle.judge.specs.Answer.{answered};
 ghost use Rattle.judge.specs.Inner.Found.{Finds, judgement_of, is_full};
 ghost use Rattle.judge.specs.Inner.Clear.{Clear, large_table};
 
-use crate::Judgement;
 use log_clocks::Row;
 use log_effects::NoneLeft;
 use log_records::kind;
@@ -59,14 +58,10 @@ fn by_rows<const ROWS: usize>(log: &[u8], version: usize, places: u16) -> Found
 }
 
 // What is found, as an answer.
-fn judgement(found: Found) -> Judgement
+fn judgement(found: Found) -> Option<usize>
     ensures { result ≡ judgement_of found }
 {
-    match found {
-        Ok(Some(index)) => Judgement::Unordered(index),
-        Ok(None) => Judgement::Ordered,
-        Err(_) => Judgement::Ordered,
-    }
+    found.unwrap_or(None)
 }
 
 // The table did not suffice.
@@ -77,10 +72,10 @@ fn full(found: Found) -> bool
 }
 
 // The answer to a log of at most 64 records: rows for as many places as it can be at, since clearing more would take longer than judging it.
-pub fn short(log: &[u8], version: usize) -> Judgement
+pub fn short(log: &[u8], version: usize) -> Option<usize>
     requires accepted { log_refusal log.now ≡ none }
     requires short { length log.now / 3 ≤ 64 }
-    ensures { Answers (version_of version) log.now (answered result) }
+    ensures { Answers (version_of version) log.now (answered (Ok result)) }
 {
     let count = log.len() / 3;
     if count <= 8 {
@@ -100,10 +95,10 @@ pub fn short(log: &[u8], version: usize) -> Judgement
 }
 
 // The answer to a log of at most 128 records, in the same way.
-pub fn middle(log: &[u8], version: usize) -> Judgement
+pub fn middle(log: &[u8], version: usize) -> Option<usize>
     requires accepted { log_refusal log.now ≡ none }
     requires short { length log.now / 3 ≤ 128 }
-    ensures { Answers (version_of version) log.now (answered result) }
+    ensures { Answers (version_of version) log.now (answered (Ok result)) }
 {
     let found = by_rows::<395>(log, version, 128);
     judgement(found)
@@ -122,9 +117,9 @@ fn by_either(log: &[u8], version: usize, all: bool) -> Found
 
 // The answer by a table for 255 places, or at once by one for all, which decides too where 255 do not suffice. It calls itself, so that the compiler keeps it
 // apart: the frame of the large tables is then set up for such logs alone, not in every call of the entry.
-fn widened(log: &[u8], version: usize, all: bool) -> Judgement
+fn widened(log: &[u8], version: usize, all: bool) -> Option<usize>
     requires { log_refusal log.now ≡ none }
-    ensures { Answers (version_of version) log.now (answered result) }
+    ensures { Answers (version_of version) log.now (answered (Ok result)) }
 {
     let found = by_either(log, version, all);
     if full(found) {
@@ -134,9 +129,9 @@ fn widened(log: &[u8], version: usize, all: bool) -> Judgement
 }
 
 // The answer to any log: most are at few places, so that more rows are cleared only where those for 64 do not suffice.
-pub fn long(log: &[u8], version: usize) -> Judgement
+pub fn long(log: &[u8], version: usize) -> Option<usize>
     requires { log_refusal log.now ≡ none }
-    ensures { Answers (version_of version) log.now (answered result) }
+    ensures { Answers (version_of version) log.now (answered (Ok result)) }
 {
     let found = by_rows::<203>(log, version, 64);
     if full(found) {

@@ -5,8 +5,6 @@ use Rattle.format.specs.Version.{Version}
 use Rattle.log_records.specs.Packed.{record_count, log_of}
 use Rattle.log_conflicts.specs.Judge.{Names}
 use Rattle.log_effects.specs.declared.NoneLeft.{NoneLeft}
-use Rattle.judge.specs.declared.Judgement.{Judgement}
-use Rattle.judge.specs.declared.Judgement.TheVariants as judgement
 
 -- what a pass finds: the index of the first unordered access, or none; or that the log is at more places than the table has rows for
 abbrev pub Found : Type 0
@@ -19,10 +17,9 @@ pub data Finds (v : Version) (b : List ℕ) (places : ℕ) : Found → Type 0 wh
   finds_full : {e : NoneLeft} → places < record_count b → places < 1024 → Finds v b places (Err e)
 
 -- as an answer
-abbrev pub judgement_of : Found → Judgement
-judgement_of (Ok (Some index)) = judgement.Unordered index
-judgement_of (Ok None) = judgement.Ordered
-judgement_of (Err e) = judgement.Ordered
+abbrev pub judgement_of : Found → Option ℕ
+judgement_of (Ok found) = found
+judgement_of (Err e) = None
 
 -- the table did not suffice
 abbrev pub is_full : Found → Bool
