@@ -102,13 +102,9 @@ fn wrong_term(
     }
     let kind = rows::number(rows, tag, OTHER);
     let place = rows::number(rows, tag, OTHER + 1);
-    if wrong_other(kind, word, place, procedures) {
-        return true;
-    }
-    if wrong_children(rows, tag, word, scope, term, count, notes, scopes) {
-        return true;
-    }
-    rows::bits_after(word, rows::number(rows, tag, SPARE)) != 0
+    wrong_other(kind, word, place, procedures)
+        || wrong_children(rows, tag, word, scope, term, count, notes, scopes)
+        || rows::bits_after(word, rows::number(rows, tag, SPARE)) != 0
 }
 
 // The lowest wrong term, or the count: then every term's 40 bits are in `words`, which came as zeros, the names of all terms are noted beside those by the
