@@ -12,7 +12,7 @@ unfolding record_count
 returns-then-count-eq0 c = record { within = omega arith; here = λ h. absurd (omega arith); before = λ k h. absurd (omega arith) }
 
 pub right_fours-tested-requires : goal.right_fours-tested-requires
-right_fours-tested-requires c = record { least_value = c.least_early-early.ensures; zero_value = c.zero_bits-zero.ensures }
+right_fours-tested-requires c = record { least_value = c.least-early.ensures; zero_value = c.zero_bits-zero.ensures }
 
 pub loop-index-init : goal.loop-index-init
 loop-index-init c = c.right_fours-tested.ensures.right
@@ -21,7 +21,7 @@ pub wrong_record-requires : goal.wrong_record-requires
 wrong_record-requires c =
     let n : ℕ = length c.args.log.now / 3 in
     let more = c.loop-index-test.true in
-    record { index_in = omega arith; least_value = early_table _ c.loop-index.index n c.least_early-early.ensures (omega arith); zero_value = c.zero_bits-zero.ensures }
+    record { index_in = omega arith; least_value = early_table _ c.loop-index.index n c.least-early.ensures (omega arith); zero_value = c.zero_bits-zero.ensures }
 
 pub returns-then-wrong_record : goal.returns-then-wrong_record
 unfolding record_count
@@ -34,7 +34,7 @@ loop-index-preserved c = below_more _ _ c.loop-index.invariant (sym c.wrong_reco
 pub wrong_record-requires-2 : goal.wrong_record-requires-2
 wrong_record-requires-2 c =
     let n : ℕ = length c.args.log.now / 3 in
-    record { index_in = omega arith; least_value = last_table _ (n - 1) n c.least_last-last.ensures (omega arith); zero_value = c.zero_bits-zero.ensures }
+    record { index_in = omega arith; least_value = last_table _ (n - 1) n c.least-last.ensures (omega arith); zero_value = c.zero_bits-zero.ensures }
 
 pub returns-then-wrong_record-2 : goal.returns-then-wrong_record-2
 unfolding record_count
