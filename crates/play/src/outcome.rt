@@ -27,12 +27,9 @@ pub fn refused(checked: Checked) -> Played
         picks: 0,
         moves: 0,
         records: 0,
-        threads: threads,
+        threads,
     };
-    Played {
-        checked: checked,
-        outcome: outcome,
-    }
+    Played { checked, outcome }
 }
 
 // The bytes of so many records.
