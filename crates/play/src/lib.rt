@@ -46,10 +46,7 @@ pub fn explore(
     let roots = roots(plan, procedures);
     let mask = layout::volatiles(plan);
     let version = layout::version(plan);
-    let setting = Setting {
-        mask: mask,
-        version: version,
-    };
+    let setting = Setting { mask, version };
     run_engine::explore(words, &roots, setting, every, picks, notes, log)
 }
 
@@ -78,8 +75,5 @@ pub fn play(plan: &[u8], schedule: &[u8], log: &mut [u8]) -> Played
     };
     let ran = run(plan, &words, false, schedule, log);
     let outcome = ran.outcome;
-    Played {
-        checked: checked,
-        outcome: outcome,
-    }
+    Played { checked, outcome }
 }
