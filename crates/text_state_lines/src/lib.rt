@@ -61,11 +61,9 @@ fn put_threads(area: &mut [u8], threads: [Thread; 8]) -> usize
     ensures { Wrote area.old 0 (thread_lines 0 threads) area.new result }
 {
     let mut at = 0;
-    let mut index = 0;
-    while index < 8 {
+    for index in 0..8 {
         let thread = threads[index];
         at = put_thread(area, at, index, thread);
-        index += 1;
     }
     at
 }
