@@ -29,17 +29,7 @@ fn put_present(area: &mut [u8], at: usize, index: usize, state: ThreadState, lea
 fn absent(state: ThreadState) -> bool
     ensures { result ≡ not_there state }
 {
-    match state {
-        ThreadState::Absent => true,
-        ThreadState::Finished { value: _ } => false,
-        ThreadState::Ready => false,
-        ThreadState::Waiting(_) => false,
-        ThreadState::Stuck(_) => false,
-        ThreadState::Lacking {
-            object: _,
-            field: _,
-        } => false,
-    }
+    matches!(state, ThreadState::Absent)
 }
 
 // The line of a thread, if it is there.
