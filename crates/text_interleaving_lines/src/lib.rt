@@ -65,14 +65,12 @@ fn put_list(plan: &[u8], n: usize, schedule: &mut [u8], first: usize, area: &mut
 {
     let mut picks = first;
     let mut at = 0;
-    let mut index = 0;
-    while index < 8192 {
+    for index in 0..8192 {
         at = schedules::put_digit_line(area, at, &schedule[0..picks]);
         let step = advance(plan, n, schedule, picks);
         match step {
             Step::Following(length) => {
                 picks = length;
-                index += 1;
             }
             Step::Over => {
                 return put_count(area, at, index + 1);

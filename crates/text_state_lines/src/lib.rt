@@ -29,17 +29,7 @@ fn put_present(area: &mut [u8], at: usize, index: usize, state: ThreadState, lea
 fn absent(state: ThreadState) -> bool
     ensures { result ≡ not_there state }
 {
-    match state {
-        ThreadState::Absent => true,
-        ThreadState::Finished { value: _ } => false,
-        ThreadState::Ready => false,
-        ThreadState::Waiting(_) => false,
-        ThreadState::Stuck(_) => false,
-        ThreadState::Lacking {
-            object: _,
-            field: _,
-        } => false,
-    }
+    matches!(state, ThreadState::Absent)
 }
 
 // The line of a thread, if it is there.
@@ -61,11 +51,9 @@ fn put_threads(area: &mut [u8], threads: [Thread; 8]) -> usize
     ensures { Wrote area.old 0 (thread_lines 0 threads) area.new result }
 {
     let mut at = 0;
-    let mut index = 0;
-    while index < 8 {
+    for index in 0..8 {
         let thread = threads[index];
         at = put_thread(area, at, index, thread);
-        index += 1;
     }
     at
 }

@@ -14,6 +14,3 @@ use Rattle.text_state_lines.proofs.put_threads.Given as goal
 
 abbrev pub invariant-loop-index : goal.invariant-loop-index
 invariant-loop-index l = (l.index ≤ 8) × (l.at ≤ 163 * l.index) × Wrote l.initial.area 0 (thread_lines 0 (take l.index l.threads)) l.area l.at
-
-abbrev pub decreases-loop-index : goal.decreases-loop-index
-decreases-loop-index l = 8 - l.index
