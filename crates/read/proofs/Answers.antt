@@ -36,7 +36,8 @@ use Rattle.read.specs.Read as texts
 use Rattle.read.specs.Read.{Failure, of_fault, too_many, short_for_plan, failed_at, answer_by, area_by, read_answer, read_area}
 use Rattle.read.specs.Answer.{failure_of, known_kind, answered}
 use Rattle.read.specs.Inner.Begun.{Held, told_answer, PlanTold, OfText, Lent, TokensPlan, TokensFault, TokensTold, Tried}
-use Rattle.read.specs.declared.ReadAnswer.TheVariants.{Failed}
+use Rattle.std.specs.Prelude.{Err}
+use Rattle.read.specs.declared.ReadError.TheVariants.{Failed}
 
 -- ---- a plan in arrays
 
@@ -129,7 +130,7 @@ some_token text = omega (arith, codes_length text, from_some text nothing 0)
 -- ---- the place of a failure
 
 pub failed_is : (text : List ℕ) (i kind reason : ℕ) {l c : ℕ} → (l ≡ (place_of text i).line) × (c ≡ (place_of text i).column)
-    → answered (Failed l c kind reason) ≡ failed_at text i (failure_of kind reason)
+    → answered (Err (Failed l c kind reason)) ≡ failed_at text i (failure_of kind reason)
 unfolding failed_at
 failed_is text i kind reason e = ap₂ (λ (l c : ℕ). texts.Read.failed l c (failure_of kind reason)) e.0 e.1
 

@@ -12,11 +12,9 @@ ghost use Rattle.plan_parser.specs.Inner.Reading.{Sized};
 use plan_lexer::places;
 use plan_reader::Outcome;
 
-// What `read` answers.
-#[derive(Clone, Copy)]
-pub enum ReadAnswer {
-    // The plan is written; its length.
-    Written(usize),
+// Why `read` writes no plan.
+#[derive(Clone, Copy, Debug, PartialEq, Eq)]
+pub enum ReadError {
     // The area is too short for it.
     Short,
     // The text is no plan: the line and the column, both from 1, of the token where reading stops, and why.
@@ -38,16 +36,16 @@ const TERMS: usize = 1024;
 pub const TOKENS: usize = 4;
 
 // Reading stops at a token.
-fn failed(text: &[u8], token: usize, kind: usize, reason: usize) -> ReadAnswer
+fn failed(text: &[u8], token: usize, kind: usize, reason: usize) -> Result<usize, ReadError>
     ensures { answered result ≡ failed_at text.now token (failure_of kind reason) }
 {
     let spot = places::place(text, token);
-    ReadAnswer::Failed {
+    Err(ReadError::Failed {
         line: spot.line,
         column: spot.column,
-        kind: kind,
-        reason: reason,
-    }
+        kind,
+        reason,
+    })
 }
 
 // The kinds from 3 on are one.
@@ -255,21 +253,21 @@ fn read_from(text: &[u8], area: &mut [u8], told: &mut [usize; 4], size: usize)
 }
 
 // The answer that was told.
-fn answer(text: &[u8], told: &[usize; 4]) -> ReadAnswer
+fn answer(text: &[u8], told: &[usize; 4]) -> Result<usize, ReadError>
     ensures { answered result ≡ told_answer text.now told.now }
 {
     if told[0] == WRITTEN {
-        return ReadAnswer::Written(told[1]);
+        return Ok(told[1]);
     }
     if told[0] == SHORT {
-        return ReadAnswer::Short;
+        return Err(ReadError::Short);
     }
     failed(text, told[1], told[2], told[3])
 }
 
 // Every text and every area gets an answer: the length of the plan, with which the area then begins, and otherwise is as it was; or that the area is too short
 // for it; or the place where reading stops and why; and then no byte of the area changed.
-pub fn read(text: &[u8], area: &mut [u8]) -> ReadAnswer
+pub fn read(text: &[u8], area: &mut [u8]) -> Result<usize, ReadError>
     ensures answer { answered result ≡ read_answer text.now area.old }
     ensures area { area.new ≡ read_area text.now area.old }
 {
