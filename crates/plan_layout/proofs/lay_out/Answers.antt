@@ -59,9 +59,6 @@ put_byte-requires c =
       length-append (text_to c.args.tokens.now c.args.marks.now (length c.args.tokens.now)) (10 ∷ []),
     )
 
-pub shape_of-area : goal.shape_of-area
-shape_of-area c = c.put_byte.ensures.kept ∙ c.loop-index.invariant.1.kept
-
 pub returns : goal.returns
 unfolding overwrite
 returns c =

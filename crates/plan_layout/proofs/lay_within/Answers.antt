@@ -24,9 +24,6 @@ loop-token-init c =
       sym (ap (λ (p : Pen). laid_from p c.args.tokens.now) e),
     )
 
-pub shape_of-room-then-room-at-lt51 : goal.shape_of-room-then-room-at-lt51
-shape_of-room-then-room-at-lt51 c = c.loop-token.invariant.5
-
 pub returns-then-room-at-lt51 : goal.returns-then-room-at-lt51
 returns-then-room-at-lt51 c = record { within = omega arith; laid = λ h. absurd (omega arith) }
 
@@ -85,9 +82,6 @@ loop-token-preserved c =
 
 pub put_byte-requires : goal.put_byte-requires
 put_byte-requires c = c.loop-token.invariant.1
-
-pub shape_of-room : goal.shape_of-room
-shape_of-room c = c.put_byte.ensures.kept ∙ c.loop-token.invariant.5
 
 pub returns : goal.returns
 returns c =

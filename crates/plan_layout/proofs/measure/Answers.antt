@@ -114,9 +114,6 @@ loop-index-preserved c =
 pub overflow_add-result : goal.overflow_add-result
 overflow_add-result c = let l = c.loop-index in record { fits = omega (arith, l.invariant.0, l.invariant.1, c.requires.tokens_len_bound.0) }
 
-pub shape_of-marks : goal.shape_of-marks
-shape_of-marks c = c.loop-index.invariant.5.kept
-
 pub returns : goal.returns
 returns c =
     let l = c.loop-index in

@@ -1,6 +1,5 @@
 -- `put_next` meets its contract. Assumes nothing.
 use native.Mathlib.Omega.{arith}
-use mathlib.Core.Path.{◌∙◌}
 use Rattle.text.proofs.Added.{added_more}
 use lib.ListN.{length-append}
 use Rattle.plan_notation.specs.Tokens.{text_of}
@@ -19,9 +18,6 @@ put_token-requires c =
       omega (arith, c.requires.token_bound.0, c.requires.token_bound.1, w.next, w.kept, c.width-width.ensures),
     )
 
-pub shape_of-area-then-total-at-lt50 : goal.shape_of-area-then-total-at-lt50
-shape_of-area-then-total-at-lt50 c = c.put_token.ensures.kept ∙ c.put_gap-next.ensures.kept
-
 pub returns-then-total-at-lt50 : goal.returns-then-total-at-lt50
 returns-then-total-at-lt50 c =
     let w = added_more c.put_gap-next.ensures c.put_token.ensures in
@@ -34,9 +30,6 @@ put_wide-requires c = (
   c.requires.token_value.1,
   omega (arith, c.requires.token_bound.1, c.requires.token_bound.0, c.if-total-at-lt50.false),
 )
-
-pub shape_of-area : goal.shape_of-area
-shape_of-area c = c.put_wide.ensures.kept
 
 pub returns : goal.returns
 returns c =

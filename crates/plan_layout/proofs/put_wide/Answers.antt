@@ -1,6 +1,5 @@
 -- `put_wide` meets its contract. Assumes nothing.
 use native.Mathlib.Omega.{arith}
-use mathlib.Core.Path.{◌∙◌}
 use Rattle.plan_layout.proofs.LaidLaws.{gap_short}
 use Rattle.plan_layout.proofs.Within.{within_later, within_more}
 use Rattle.plan_layout.proofs.put_wide.Goals as goal
@@ -11,9 +10,6 @@ put_wide_gap-next-requires c = (c.requires.2, omega (arith, c.requires.3))
 pub put_wide_token-requires : goal.put_wide_token-requires
 put_wide_token-requires c =
     let w = c.put_wide_gap-next.ensures in (c.requires.0, c.requires.1, omega (arith, c.requires.3, w.next, w.kept, gap_short c.args.gap c.requires.2))
-
-pub shape_of-area : goal.shape_of-area
-shape_of-area c = c.put_wide_token.ensures.kept ∙ c.put_wide_gap-next.ensures.kept
 
 pub returns : goal.returns
 returns c =
