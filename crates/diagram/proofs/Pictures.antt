@@ -7,6 +7,7 @@ use mathlib.Core.Option.{Option, some, none, none-ne-some}
 use Rattle.std.specs.Prelude.{Option as CodeOption, Some, None}
 use lib.ListN.{length, length-append, get_or, drop}
 use Rattle.format.specs.Area.{overwrite}
+use Rattle.format.specs.Refusal.{Refusal}
 use Rattle.format.specs.Version.{Version, version_of}
 use Rattle.log_records.specs.Packed.{record_count, log_of}
 use Rattle.log_records.proofs.RoundTrip.{length_log}
@@ -102,12 +103,10 @@ module _ {version : ℕ} {b area : List ℕ} where
   unfolding record_count
   too_short J h = picture.short J.version_known J.passed h
 
-  refused_by : {k i : ℕ} → version ≤ 1 → Answers (version_of version) b (refused (record { number = k; place = i }))
-      → Pictured version b area (Answer.refused (record { number = k; place = i })) area
+  refused_by : {r : Refusal} → version ≤ 1 → Answers (version_of version) b (refused r) → Pictured version b area (Answer.refused r) area
   refused_by l (refuses e) = picture.refuses l e
 
-  pub refused_picture : {k i : ℕ} → AnswersTold version b (refused (record { number = k; place = i }))
-      → Pictured version b area (Answer.refused (record { number = k; place = i })) area
+  pub refused_picture : {r : Refusal} → AnswersTold version b (refused r) → Pictured version b area (Answer.refused r) area
   refused_picture (wrong_version h) = picture.wrong_version h
   refused_picture (right_version l a) = refused_by l a
 

@@ -6,6 +6,7 @@ use mathlib.Core.List.{List, ◌++◌}
 use mathlib.Core.Option.{some, none}
 use lib.ListN.{length, drop}
 use Rattle.format.specs.Area.{overwrite}
+use Rattle.format.specs.Refusal.{Refusal}
 use Rattle.format.specs.Version.{Version, version_of}
 use Rattle.log_records.specs.Packed.{record_at, log_of}
 use Rattle.log_records.specs.Record.{Record}
@@ -48,12 +49,10 @@ module _ {v : Version} (b : List ℕ) (j i : ℕ) (w x : Columns) (L : LastOf v 
 -- ---- the judge's answer
 
 module _ (version : ℕ) (b area : List ℕ) (big : 200 ≤ length area) where
-  refused_by : {k i : ℕ} → version ≤ 1 → Answers (version_of version) b (refused (record { number = k; place = i }))
-      → JudgeTold version b area (Answer.refused (record { number = k; place = i })) area
+  refused_by : {r : Refusal} → version ≤ 1 → Answers (version_of version) b (refused r) → JudgeTold version b area (Answer.refused r) area
   refused_by l (refuses e) = told.refuses big l e
 
-  pub refused_told : {k i : ℕ} → AnswersTold version b (refused (record { number = k; place = i }))
-      → JudgeTold version b area (Answer.refused (record { number = k; place = i })) area
+  pub refused_told : {r : Refusal} → AnswersTold version b (refused r) → JudgeTold version b area (Answer.refused r) area
   refused_told (wrong_version h) = told.wrong_version big h
   refused_told (right_version l a) = refused_by l a
 
