@@ -54,16 +54,22 @@ module _ (plan schedule area : List ℕ) (p : Played) (h : answered p ≡ played
 
 -- ---- a play that is refused
 
--- the refusal of an answer is one
-same : (r s : Refusal) → Err {T = Unit {0}} r ≡ Err s → Err {T = rust.Option ℕ} r ≡ Err s
-same r s e = let x : r ≡ s = cc in ap (λ (y : Refusal). Err y) x
+-- the refusal that an answer is
+refusal_or : Refusal → Result (Unit {0}) Refusal → Refusal
+refusal_or other (Ok u) = other
+refusal_or other (Err r) = r
+
+-- as a judgement
+abbrev judged : Refusal → Result (rust.Option ℕ) Refusal
+judged r = Err r
 
 pub refused_agreed : (plan schedule : List ℕ) (p : Played) (r : Refusal) → p.checked ≡ Err r
     → AgreedOn plan schedule (record { played = p; judgement = Err r })
+unfolding refusal_or
 refused_agreed plan schedule p r e =
     record {
       chains = λ q. passed_refused q e;
       judged = λ q. passed_refused q e;
       agrees = λ q. passed_refused q e;
-      refused = λ s q. same r s (sym e ∙ q);
+      refused = λ s q. ap judged (ap (refusal_or r) (sym e ∙ q));
     }

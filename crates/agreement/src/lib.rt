@@ -39,14 +39,16 @@ pub fn play_and_judge(plan: &[u8], schedule: &[u8], log: &mut [u8]) -> PlayedAnd
     let played = play::play(plan, schedule, log);
     let checked = played.checked;
     let outcome = played.outcome;
-    if let Err(refusal) = checked {
-        return PlayedAndJudged {
+    match checked {
+        Err(refusal) => PlayedAndJudged {
             played,
             judgement: Err(refusal),
-        };
+        },
+        Ok(()) => {
+            let bytes = play::outcome::record_bytes(outcome.records);
+            let version = layout::version(plan);
+            let judgement = judge_first(version, log, bytes);
+            PlayedAndJudged { played, judgement }
+        }
     }
-    let bytes = play::outcome::record_bytes(outcome.records);
-    let version = layout::version(plan);
-    let judgement = judge_first(version, log, bytes);
-    PlayedAndJudged { played, judgement }
 }

@@ -24,14 +24,12 @@ pub fn begun(classes: &Classes, text: &[u8], index: usize) -> Lexeme
     ensures { Lexed text.now index result.code result.end }
 {
     let class = classes::class_of(classes, text[index]);
+    let end = index + 1;
     if class == BLANK {
-        return Lexeme {
-            code: None,
-            end: index + 1,
-        };
+        return Lexeme { code: None, end };
     }
     if class < HASH {
-        let name = extents::name_from(classes, text, index + 1, class);
+        let name = extents::name_from(classes, text, end, class);
         return Lexeme {
             code: Some(names::token_of(name.value)),
             end: name.end,
@@ -40,14 +38,12 @@ pub fn begun(classes: &Classes, text: &[u8], index: usize) -> Lexeme
     if MARK <= class {
         return Lexeme {
             code: Some(class),
-            end: index + 1,
+            end,
         };
     }
     if class == HASH {
-        return Lexeme {
-            code: None,
-            end: extents::comment_end(text, index + 1),
-        };
+        let end = extents::comment_end(text, end);
+        return Lexeme { code: None, end };
     }
     if extents::becomes(text, index) {
         return Lexeme {
@@ -57,6 +53,6 @@ pub fn begun(classes: &Classes, text: &[u8], index: usize) -> Lexeme
     }
     Lexeme {
         code: Some(UNKNOWN),
-        end: index + 1,
+        end,
     }
 }

@@ -1,23 +1,46 @@
-use Rattle.std.proofs.Common.{rules, ◌≡◌, ◌≤◌, length, take, ℕ, ◌+◌, ◌-◌, ◌*◌, ◌<◌, ◌/◌, ◌%◌, Bool, true, false, nat_eq, nat_lt, List, [], ◌∷◌, ◌++◌, slice_index_or, slice_set, bit_and, bit_or, Fits, w8, w32, w64, Bor, MutBor}
-use Rattle.log_conflicts.specs.Judge.{AnswersTold}
-use Rattle.rules.specs.Play.{played, area_after}
-use Rattle.play.specs.Answer.{answered, NoRunIfRefused}
-use Rattle.judge.specs.Answer as judge
-use Rattle.agreement.specs.AgreedOn.{AgreedOn}
+-- `agreement::play_and_judge` meets its contract: what `play` ensures of its answer and of the log area, and what the judge ensures of the area's first
+-- bytes, which are the run's records. Assumes nothing.
+use native.Mathlib.Omega.{arith}
+use borrow.Author.Rules.{rules}
+use Rattle.run_refusals.proofs.Passed.{inside}
+use Rattle.play.proofs.Ran.{passes, few_records, within}
+use Rattle.agreement.proofs.Entry.{agreed_on, refused_agreed}
 use Rattle.agreement.proofs.play_and_judge.Goals as goal
 
--- src/lib.rt:48:9
+-- the records are few
 pub record_bytes-bytes-requires : goal.record_bytes-bytes-requires
-record_bytes-bytes-requires c = ?
+record_bytes-bytes-requires c =
+    let a = c.args in
+    let p = c.play-played in
+    few_records a.plan.now a.schedule.now a.log.now p.result p.ensures.answer c.in-Ok.is
 
--- src/lib.rt:49:9
+-- the plan has its header
 pub version-version-requires : goal.version-version-requires
-version-version-requires c = ?
+version-version-requires c =
+    let a = c.args in
+    let p = c.play-played in
+    let w = (inside a.plan.now (passes a.plan.now a.schedule.now a.log.now p.result p.ensures.answer c.in-Ok.is).plan_passes).long in
+    omega arith
 
--- src/lib.rt:50:9
+-- and the log area has room for them
 pub judge_first-judgement-requires : goal.judge_first-judgement-requires
-judge_first-judgement-requires c = ?
+judge_first-judgement-requires c =
+    let a = c.args in
+    let p = c.play-played in
+    let room = within a.plan.now a.schedule.now a.log.now p.result p.ensures.answer c.in-Ok.is p.new.log p.ensures.area in
+    let b = c.record_bytes-bytes in
+    room b.result (omega (arith, b.ensures))
 
--- src/lib.rt:33:1
-pub returns-clause-agreed : goal.returns-clause-agreed
-returns-clause-agreed c = ?
+-- a refused play
+pub returns-in-Err-clause-agreed : goal.returns-in-Err-clause-agreed
+returns-in-Err-clause-agreed c = refused_agreed _ _ c.play-played.result c.in-Err.refusal c.in-Err.is
+
+-- a play that is not refused
+pub returns-in-Ok-clause-agreed : goal.returns-in-Ok-clause-agreed
+returns-in-Ok-clause-agreed c =
+    let a = c.args in
+    let p = c.play-played in
+    let b = c.record_bytes-bytes in
+    let v = c.version-version in
+    agreed_on a.plan.now a.schedule.now a.log.now p.result p.ensures.answer c.in-Ok.is p.new.log p.ensures.area
+    c.judge_first-judgement.result b.result b.ensures v.result v.ensures c.judge_first-judgement.ensures

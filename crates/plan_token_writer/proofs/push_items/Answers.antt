@@ -30,8 +30,5 @@ loop-left-preserved c =
           (pushed_more l.1 (pushed_as (ap (λ (y : ℕ). y ∷ []) x) c.push-next.ensures)),
     )
 
-pub shape_of-stack : goal.shape_of-stack
-shape_of-stack c = c.loop-left.invariant.1.kept
-
 pub returns : goal.returns
 returns c = let l = c.loop-left in pushed_as (items_whole _ _ l.left _ (omega arith)) l.invariant.1

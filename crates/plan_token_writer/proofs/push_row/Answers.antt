@@ -1,6 +1,5 @@
 -- `push_row` meets its contract. Assumes nothing.
 use native.Mathlib.Omega.{arith}
-use mathlib.Core.Path.{◌∙◌}
 use Rattle.plan_token_writer.specs.Inner.Items.{row_number}
 use Rattle.plan_token_writer.proofs.Operands.{few_items, items_length, in_parentheses, without}
 use Rattle.plan_token_writer.proofs.Stack.{pushed_more, pushed_as}
@@ -28,10 +27,6 @@ push-requires c =
       omega arith,
     )
 
-pub shape_of-stack-then-number-level : goal.shape_of-stack-then-number-level
-shape_of-stack-then-number-level c = c.push.ensures.kept ∙ c.push_items-next.ensures.kept
-    ∙ c.push-inside.ensures.kept
-
 pub returns-then-number-level : goal.returns-then-number-level
 returns-then-number-level c =
     pushed_as (in_parentheses c.args.level c.args.word c.args.row
@@ -39,9 +34,6 @@ returns-then-number-level c =
     c.if-number-level.true))
     (pushed_more (pushed_more c.push-inside.ensures
     c.push_items-next.ensures) c.push.ensures)
-
-pub shape_of-stack : goal.shape_of-stack
-shape_of-stack c = c.push_items.ensures.kept
 
 pub returns : goal.returns
 returns c =

@@ -11,9 +11,6 @@ put_byte-requires c =
     let e = field_there c.args.mask c.args.field (sym c.bit.ensures ∙ c.if-bit-eq1.true) in
     omega (arith, c.requires.1, ap length e)
 
-pub shape_of-area-then-bit-eq1 : goal.shape_of-area-then-bit-eq1
-shape_of-area-then-bit-eq1 c = c.put_byte.ensures.kept
-
 pub returns-then-bit-eq1 : goal.returns-then-bit-eq1
 returns-then-bit-eq1 c = added_as (sym (field_there _ _ (sym c.bit.ensures ∙ c.if-bit-eq1.true)))
     c.put_byte.ensures

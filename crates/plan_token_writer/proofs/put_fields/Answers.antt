@@ -18,9 +18,6 @@ loop-field-preserved c =
     let l = c.loop-field in
     (omega (arith, l.invariant.0), omega arith, added_as (one_field _ _ _ l.invariant.0) (added_more l.invariant.2 c.put_field-next.ensures))
 
-pub shape_of-area : goal.shape_of-area
-shape_of-area c = c.loop-field.invariant.2.kept
-
 pub returns : goal.returns
 returns c =
     let l = c.loop-field in

@@ -26,9 +26,6 @@ put_byte-at-requires c =
     let p = c.requires in
     omega (arith, room _ p.ordered [] _ _ _ p.some p.contexts _ _ (of_token _ p.ordered _ c.if-item-ge-TOKEN.true) p.room)
 
-pub shape_of-area-then-item-ge-TOKEN : goal.shape_of-area-then-item-ge-TOKEN
-shape_of-area-then-item-ge-TOKEN c = c.put_byte-at.ensures.kept
-
 pub returns-then-item-ge-TOKEN : goal.returns-then-item-ge-TOKEN
 returns-then-item-ge-TOKEN c =
     let p = c.requires in
@@ -41,9 +38,6 @@ put_new-at-requires c =
     room _ p.ordered [] _ _ _ p.some p.contexts _ _
     (new_item _ p.ordered _ _ _ _ c.if-item-ge-TOKEN.false c.tag-tag.ensures
     c.is_new.ensures c.if-is_new.true c.mask_of.ensures) p.room
-
-pub shape_of-area-then-is_new : goal.shape_of-area-then-is_new
-shape_of-area-then-is_new c = c.put_new-at.ensures.kept
 
 pub returns-then-is_new : goal.returns-then-is_new
 returns-then-is_new c =
@@ -60,9 +54,6 @@ push_row-top-requires c =
       c.row_as.ensures.1,
       omega (arith, within _ p.ordered [] _ _ _ p.some p.contexts _ p.room, p.size),
     )
-
-pub shape_of-stack : goal.shape_of-stack
-shape_of-stack c = c.push_row-top.ensures.kept
 
 pub returns : goal.returns
 returns c =

@@ -21,11 +21,5 @@ loop-standing-preserved c =
     let s = c.step-standing.ensures in
     (goes_on_lem l.0 s, s.kept ∙ l.1)
 
-pub shape_of-stack : goal.shape_of-stack
-shape_of-stack c = c.loop-standing.invariant.1 ∙ c.push-top.ensures.kept
-
-pub shape_of-area : goal.shape_of-area
-shape_of-area c = c.loop-standing.invariant.0.wrote.kept
-
 pub returns : goal.returns
 returns c = ends c.loop-standing.invariant.0 (omega arith)

@@ -6,9 +6,6 @@ use Rattle.plan_tokens.proofs.put_head.Goals as goal
 pub put_word-requires : goal.put_word-requires
 put_word-requires c = omega (arith, c.requires.at_in_bounds)
 
-pub shape_of-area : goal.shape_of-area
-shape_of-area c = c.put_word.ensures.kept
-
 pub returns : goal.returns
 unfolding procedure_head
 returns c = c.put_word.ensures

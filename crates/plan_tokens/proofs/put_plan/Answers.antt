@@ -37,11 +37,6 @@ put_procedures-requires c =
       plan_in_bounds = rw (q.kept ∙ p.kept) (room_for_others _ _ g _ c.requires.given.1 _ _ p.next q.next);
     }
 
-pub shape_of-area : goal.shape_of-area
-shape_of-area c = c.put_procedures.ensures.kept
-    ∙ c.write_expression-behind.ensures.kept
-    ∙ c.put_header-main.ensures.kept
-
 pub returns : goal.returns
 returns c =
     let g = c.requires.given.0 in

@@ -41,10 +41,6 @@ write_expression-requires c =
           )));
     }
 
-pub shape_of-area : goal.shape_of-area
-shape_of-area c = c.write_expression.ensures.kept
-    ∙ c.put_head-next.ensures.kept
-
 pub returns : goal.returns
 unfolding procedure_alone
 returns c =

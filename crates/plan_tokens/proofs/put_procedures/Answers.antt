@@ -21,14 +21,6 @@ loop-procedure-preserved c =
     let p = c.put_procedure-at in
     (search rules, λ g. let h = rw c.requires.count_value at x.true in rw add-one (at_next _ _ g (l.invariant.1 g) h p.ensures))
 
-pub shape_of-stack : goal.shape_of-stack
-shape_of-stack c = let l = c.loop-procedure in l.invariant.0
-
-pub shape_of-area : goal.shape_of-area
-shape_of-area c =
-    let l = c.loop-procedure in
-    (l.invariant.1 c.requires.given.0).wrote.kept
-
 pub returns : goal.returns
 returns c =
     at_last _ _ c.requires.given.0 (c.loop-procedure.invariant.1 c.requires.given.0) (rw c.requires.count_value at c.loop-procedure-test.false)

@@ -61,7 +61,7 @@ returns-then-class-ge-MARK c =
 
 pub returns-then-class-eq-HASH : goal.returns-then-class-eq-HASH
 returns-then-class-eq-HASH c =
-    let n = c.comment_end.ensures in
+    let n = c.comment_end-end.ensures in
     record {
       behind = omega (arith, n.behind);
       inside = n.inside;
