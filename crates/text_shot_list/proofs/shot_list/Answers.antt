@@ -3,7 +3,6 @@ use native.Mathlib.Omega.{arith}
 use mathlib.Core.Path.{refl, sym, ◌∙◌}
 use Rattle.text_refusal_lines.proofs.LineParts.{refusal_short}
 use Rattle.text_shot_list.proofs.Inputs.{cut_text, parts_text, finished}
-use borrow.Author.Rules.{rules}
 use Rattle.text_shot_list.proofs.shot_list.Goals as goal
 
 pub returns-then-area-lt131072 : goal.returns-then-area-lt131072
