@@ -7,7 +7,7 @@ ghost use Rattle.text_refusal_lines.specs.Lines.{refusal_line};
 ghost use Rattle.text.specs.Inner.Wrote.{Wrote};
 ghost use Rattle.text_shot_list.specs.Printed.{play_text, printed, TextWritten};
 
-use refusals::Refusal;
+use refusals::{Reason, Refusal};
 
 // The line of a refusal.
 fn put_refusal(area: &mut [u8], refusal: Refusal) -> usize
@@ -50,7 +50,7 @@ pub fn shot_list(input: &[u8], area: &mut [u8]) -> usize
         return 0;
     }
     if text_input_parts::cut_short(input) {
-        return text_refusal_lines::put_refusal(area, 0, 1, 0);
+        return put_refusal(area, Reason::PlanLength.at(0));
     }
     let plan = text_input_parts::plan_of(input);
     let schedule = text_input_parts::schedule_of(input);
