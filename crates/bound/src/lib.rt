@@ -15,7 +15,12 @@ use plan_operands::tags;
 use refusals::{Reason, Refusal};
 
 // Refusals 21 to 23 of a plan that passes the others and is in `words`, else the total.
-fn total_of(plan: &[u8], procedures: usize, count: usize, words: &[usize; 1024]) -> Result<usize, Refusal>
+fn total_of(
+    plan: &[u8],
+    procedures: usize,
+    count: usize,
+    words: &[usize; 1024],
+) -> Result<usize, Refusal>
     requires loads { Loads plan.now procedures words.now }
     requires count_value { count ≡ terms plan.now }
     ensures { answered result ≡ bounded plan.now }
