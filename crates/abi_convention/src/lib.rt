@@ -8,8 +8,7 @@ ghost use Rattle.answers.specs.Answer as tool;
 ghost use Rattle.abi_convention.specs.Convention.{check_number, answer_number, place_number};
 ghost use Rattle.abi_convention.specs.Inner.Small.{SmallNumber, SmallAnswer};
 
-use answers::Answered;
-use plan_refusals::Checked;
+use refusals::Refusal;
 
 // Of a refusal: 2 in the upper half.
 pub fn refusal(number: usize, place: usize) -> u64
@@ -28,24 +27,24 @@ pub fn index(index: usize) -> u64
 }
 
 // Of a check's answer.
-pub fn of_check(checked: Checked) -> u64
+pub fn of_check(checked: Result<(), Refusal>) -> u64
     requires { SmallCheck (refusals.answered checked) }
     ensures { result ≡ check_number (refusals.answered checked) }
 {
     match checked {
-        Checked::Passed => 0,
-        Checked::Refused { number, place } => refusal(number, place),
+        Ok(()) => 0,
+        Err(refused) => refusal(refused.number(), refused.place),
     }
 }
 
 // Of a tool's answer.
-pub fn of_answer(answered: Answered) -> u64
+pub fn of_answer(answered: Result<usize, Refusal>) -> u64
     requires { SmallAnswer (tool.answered answered) }
     ensures { result ≡ answer_number (tool.answered answered) }
 {
     match answered {
-        Answered::Value(value) => value as u64,
-        Answered::Refused { number, place } => refusal(number, place),
+        Ok(value) => value as u64,
+        Err(refused) => refusal(refused.number(), refused.place),
     }
 }
 

@@ -9,7 +9,6 @@ ghost use Rattle.abi_outcome.specs.Play.{play_number, out_after};
 ghost use Rattle.abi_outcome.specs.Inner.Parts.{head_bytes};
 
 use abi_thread_bytes::{stop_byte, thread_bytes};
-use plan_refusals::Checked;
 use play::outcome::Played;
 use run_outcome::{Outcome, Stop};
 
@@ -68,11 +67,11 @@ pub fn write_play(out: &mut [u8; 40], played: Played) -> u64
 {
     let checked = played.checked;
     match checked {
-        Checked::Refused { number, place } => abi_convention::refusal(number, place),
-        Checked::Passed => {
+        Ok(()) => {
             let outcome = played.outcome;
             write(out, outcome);
             0
         }
+        Err(refused) => abi_convention::refusal(refused.number(), refused.place),
     }
 }

@@ -4,12 +4,13 @@
 ghost use Rattle.std.specs.Prelude.{◌≡◌};
 ghost use Rattle.play.specs.Answer.{stop_of};
 ghost use Rattle.abi_thread_bytes.specs.Bytes.{three, stop_byte};
-ghost use Rattle.preview.specs.Answer.{answered, AsLogged};
-ghost use Rattle.abi_preview.specs.Bytes.{preview_number, out_after};
-ghost use Rattle.abi_preview.specs.Inner.Small.{SmallPreviewed, eight, no_record};
+ghost use Rattle.preview.specs.Answer.{answered, preview_of, AsLogged, LoggedAs};
+ghost use Rattle.abi_preview.specs.Bytes.{preview_bytes, preview_number, out_after};
+ghost use Rattle.abi_preview.specs.Inner.Small.{SmallPreview, SmallPreviewed, eight, no_record};
 
 use abi_thread_bytes::ThreadBytes;
-use run_last_pick::{Previewed, RecordBytes};
+use refusals::Refusal;
+use run_last_pick::{Preview, RecordBytes};
 use run_outcome::Stop;
 
 // A stop, where a thread's bytes would stand.
@@ -58,27 +59,32 @@ fn fill(out: &mut [u8; 8], kind: u8, why: ThreadBytes, logged: RecordBytes)
     out[6] = logged.low;
 }
 
+// The eight bytes of a preview.
+fn write_shown(out: &mut [u8; 8], shown: Preview)
+    requires { SmallPreview (preview_of shown) × LoggedAs shown }
+    ensures { out.new ≡ preview_bytes (preview_of shown) }
+{
+    match shown {
+        Preview::Stopped(stop) => fill(out, 5, stop_bytes(stop), no_record()),
+        Preview::Passed(state) => fill(out, 0, abi_thread_bytes::thread_bytes(state), no_record()),
+        Preview::Moved => fill(out, 1, no_reason(), no_record()),
+        Preview::Recorded(logged) => fill(out, 2, no_reason(), logged),
+        Preview::Race(logged) => fill(out, 3, stop_bytes(Stop::Race), logged),
+        Preview::NoRoom(room) => fill(out, 4, stop_bytes(Stop::NoRoom(room)), no_record()),
+    }
+}
+
 // 0 and the eight bytes; or the refusal, and no byte changed.
-pub fn write(out: &mut [u8; 8], previewed: Previewed) -> u64
+pub fn write(out: &mut [u8; 8], previewed: Result<Preview, Refusal>) -> u64
     requires { SmallPreviewed (answered previewed) × AsLogged previewed }
     ensures number { result ≡ preview_number (answered previewed) }
     ensures bytes { out.new ≡ out_after out.old (answered previewed) }
 {
     match previewed {
-        Previewed::Refused { number, place } => {
-            return abi_convention::refusal(number, place);
+        Ok(shown) => {
+            write_shown(out, shown);
+            0
         }
-        Previewed::Stopped(stop) => fill(out, 5, stop_bytes(stop), no_record()),
-        Previewed::Passed(state) => fill(
-            out,
-            0,
-            abi_thread_bytes::thread_bytes(state),
-            no_record(),
-        ),
-        Previewed::Moved => fill(out, 1, no_reason(), no_record()),
-        Previewed::Recorded(logged) => fill(out, 2, no_reason(), logged),
-        Previewed::Race(logged) => fill(out, 3, stop_bytes(Stop::Race), logged),
-        Previewed::NoRoom(room) => fill(out, 4, stop_bytes(Stop::NoRoom(room)), no_record()),
+        Err(refused) => abi_convention::refusal(refused.number(), refused.place),
     }
-    0
 }

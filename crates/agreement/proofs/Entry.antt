@@ -9,7 +9,9 @@ use lib.ListN.{take}
 use Rattle.log_conflicts.specs.Judge.{named, Answers, AnswersTold}
 use Rattle.plan_packed.specs.Format.{version}
 use Rattle.plan_packed.specs.Trees.{program_of}
-use Rattle.plan_refusals.specs.declared.Checked.TheVariants as checked
+use Rattle.std.specs.Prelude.{Result, Ok, Err}
+use Rattle.std.specs.Prelude as rust
+use Rattle.refusals.specs.declared.Refusal.{Refusal}
 use Rattle.log_records.specs.Packed.{bytes_of}
 use Rattle.rules.specs.Run.{log}
 use Rattle.rules.specs.Play.{played, area_after, run_of}
@@ -17,8 +19,6 @@ use Rattle.play.specs.declared.outcome.Played.{Played}
 use Rattle.play.specs.Answer.{stop_of, answered}
 use Rattle.plan_refusals.proofs.Stages.{passed_refused}
 use Rattle.play.proofs.Ran.{passes, stop_is, records_are, begins}
-use Rattle.judge.specs.declared.Judgement.{Judgement}
-use Rattle.judge.specs.declared.Judgement.TheVariants as judgement
 use Rattle.judge.specs.Answer as judge
 use Rattle.agreement.specs.Agreement.{NamedBy, Agreement}
 use Rattle.agreement.specs.AgreedOn.{AgreedOn}
@@ -26,12 +26,12 @@ use Rattle.agreement.proofs.Agreed.{agreement, told_plan}
 
 -- ---- a play that is not refused
 
-module _ (plan schedule area : List ℕ) (p : Played) (h : answered p ≡ played plan schedule area) (e : p.checked ≡ checked.Passed) where
+module _ (plan schedule area : List ℕ) (p : Played) (h : answered p ≡ played plan schedule area) (e : p.checked ≡ Ok tt) where
   agrees_all : Agreement (program_of plan) schedule (run_of plan schedule)
   agrees_all = let a = passes plan schedule area p h e in agreement plan schedule a.plan_passes a.few
 
   -- what the judge says of the first bytes of the log area that the play leaves
-  module _ (after : List ℕ) (left : after ≡ area_after plan schedule area) (j : Judgement) (n : ℕ) (q : n ≡ 3 * p.outcome.records) (v : ℕ)
+  module _ (after : List ℕ) (left : after ≡ area_after plan schedule area) (j : Result (rust.Option ℕ) Refusal) (n : ℕ) (q : n ≡ 3 * p.outcome.records) (v : ℕ)
       (w : v ≡ version plan) (m : AnswersTold v (take n after) (judge.answered j)) where
     answers : Answers (program_of plan).version (bytes_of (log (run_of plan schedule))) (judge.answered j)
     answers =
@@ -49,17 +49,27 @@ module _ (plan schedule area : List ℕ) (p : Played) (h : answered p ≡ played
           chains = λ _. agrees_all;
           judged = λ _. answers;
           agrees = λ _. stop_named;
-          refused = λ k i x. passed_refused e x;
+          refused = λ r x. passed_refused e x;
         }
 
 -- ---- a play that is refused
 
-pub refused_agreed : (plan schedule : List ℕ) (p : Played) (k i : ℕ) → p.checked ≡ checked.Refused k i
-    → AgreedOn plan schedule (record { played = p; judgement = judgement.Refused k i })
-refused_agreed plan schedule p k i e =
+-- the refusal that an answer is
+refusal_or : Refusal → Result (Unit {0}) Refusal → Refusal
+refusal_or other (Ok u) = other
+refusal_or other (Err r) = r
+
+-- as a judgement
+abbrev judged : Refusal → Result (rust.Option ℕ) Refusal
+judged r = Err r
+
+pub refused_agreed : (plan schedule : List ℕ) (p : Played) (r : Refusal) → p.checked ≡ Err r
+    → AgreedOn plan schedule (record { played = p; judgement = Err r })
+unfolding refusal_or
+refused_agreed plan schedule p r e =
     record {
       chains = λ q. passed_refused q e;
       judged = λ q. passed_refused q e;
       agrees = λ q. passed_refused q e;
-      refused = λ l j q. let x : checked.Refused k i ≡ checked.Refused l j = sym e ∙ q in cc;
+      refused = λ s q. ap judged (ap (refusal_or r) (sym e ∙ q));
     }

@@ -9,20 +9,19 @@ ghost use Rattle.play.specs.Answer.{answered, NoRunIfRefused};
 ghost use Rattle.judge.specs.Answer as judge;
 ghost use Rattle.agreement.specs.AgreedOn.{AgreedOn};
 
-use judge::Judgement;
 use plan_header::layout;
-use plan_refusals::Checked;
 use play::outcome::Played;
+use refusals::Refusal;
 
 // What a play answers, and what the judge says of the records that it wrote, or the refusal of the play.
 #[derive(Clone, Copy)]
 pub struct PlayedAndJudged {
     pub played: Played,
-    pub judgement: Judgement,
+    pub judgement: Result<Option<usize>, Refusal>,
 }
 
 // The judge on the first bytes of a log area, and on no other byte of it.
-fn judge_first(version: usize, area: &[u8], bytes: usize) -> Judgement
+fn judge_first(version: usize, area: &[u8], bytes: usize) -> Result<Option<usize>, Refusal>
     requires { bytes ≤ length area.now }
     ensures { AnswersTold version (take bytes area.now) (judge.answered result) }
 {
@@ -41,21 +40,15 @@ pub fn play_and_judge(plan: &[u8], schedule: &[u8], log: &mut [u8]) -> PlayedAnd
     let checked = played.checked;
     let outcome = played.outcome;
     match checked {
-        Checked::Refused { number, place } => PlayedAndJudged {
-            played: played,
-            judgement: Judgement::Refused {
-                number: number,
-                place: place,
-            },
+        Err(refusal) => PlayedAndJudged {
+            played,
+            judgement: Err(refusal),
         },
-        Checked::Passed => {
+        Ok(()) => {
             let bytes = play::outcome::record_bytes(outcome.records);
             let version = layout::version(plan);
             let judgement = judge_first(version, log, bytes);
-            PlayedAndJudged {
-                played: played,
-                judgement: judgement,
-            }
+            PlayedAndJudged { played, judgement }
         }
     }
 }

@@ -1,9 +1,9 @@
 -- What a tool of document 02 answers. Assumes nothing.
-use Rattle.std.specs.Prelude.{ℕ}
+use Rattle.std.specs.Prelude.{ℕ, Result, Ok, Err}
 use Rattle.std.proofs.Math.Option.{Option, some, none}
 use Rattle.format.specs.Refusal.{Refusal}
-use Rattle.answers.specs.declared.Answered.{Answered}
-use Rattle.answers.specs.declared.Answered.TheVariants.{Value, Refused}
+use Rattle.refusals.specs.declared.Refusal as code
+use Rattle.refusals.specs.Numbers.{refusal_of}
 
 -- "An answer is the number and a place" of a refusal; else a value: "Wherever something is written into a lent area, the answer also gives its length [..] in
 -- bytes" (document 01), or the number that was asked for
@@ -17,6 +17,6 @@ answer_by none n = value n
 answer_by (some r) n = refused r
 
 -- what the code answers, in those words
-abbrev pub answered : Answered → Answer
-answered (Value n) = value n
-answered (Refused number place) = refused (record { number = number; place = place })
+abbrev pub answered : Result ℕ code.Refusal → Answer
+answered (Ok n) = value n
+answered (Err r) = refused (refusal_of r)

@@ -1,8 +1,2 @@
-// What a tool answers: a value, or document 01's number and place of the refusal.
+// What a tool answers: a value, or a refusal. Definitions only, in specs/.
 #![tactic(auto)]
-
-#[derive(Clone, Copy)]
-pub enum Answered {
-    Value(usize),
-    Refused { number: usize, place: usize },
-}

@@ -19,8 +19,10 @@ use Rattle.plan_packed.specs.Refusals.{any_below}
 use Rattle.plan_packed.specs.Inner.Steps.{tag_in}
 use Rattle.plan_packed.proofs.Accepted.{accepted}
 use Rattle.plan_refusals.specs.Answer as checked
-use Rattle.plan_refusals.specs.declared.Checked.{Checked}
-use Rattle.plan_refusals.specs.declared.Checked.TheVariants.{Refused}
+use Rattle.plan_refusals.proofs.Stages.{Checked}
+use Rattle.refusals.specs.declared.Refusal as code
+use Rattle.refusals.specs.Numbers.{refusal_of}
+use Rattle.std.specs.Prelude.{Err}
 use Rattle.costs.specs.Cost.{body_cost, total}
 use Rattle.costs.specs.Calls.{called, cyclic}
 use Rattle.costs.specs.Inner.Leading.{leads_on}
@@ -44,10 +46,10 @@ no_more b (refused r) e = tt
 no_more b (value n) e = λ picks. no_more_moves b n (sym e) picks
 
 -- a refusal of the check is the answer
-pub by_check : (b : List ℕ) (r : Checked) (k i : ℕ) → checked.answered r ≡ refusal b → r ≡ Refused k i → refused (record { number = k; place = i }) ≡ bounded b
+pub by_check : (b : List ℕ) (r : Checked) (c : code.Refusal) → checked.answered r ≡ refusal b → r ≡ Err c → refused (refusal_of c) ≡ bounded b
 unfolding bounded answer_by or_else checked.answered
-by_check b r k i e q =
-    let s : refusal b ≡ some (record { number = k; place = i }) = sym e ∙ ap checked.answered q in
+by_check b r c e q =
+    let s : refusal b ≡ some (refusal_of c) = sym e ∙ ap checked.answered q in
     ap (λ (o : Option Refusal). answer_by o (total (program_of b)))
     (sym (bound_stages b ∙ ap (λ (x : Option Refusal). or_else x (first_refusal (later_checks b))) s))
 

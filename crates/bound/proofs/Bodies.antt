@@ -13,7 +13,7 @@ use Rattle.plan_packed.specs.Format.{procedures, terms, root}
 use Rattle.plan_packed.specs.Trees.{tree_at, procedure_at, program_of}
 use Rattle.plan_packed.specs.Check.{refusal}
 use Rattle.plan_packed.specs.Slots.{bound}
-use Rattle.plan_packed.specs.Inner.Steps.{Right, Loaded, Ordered, tree_in}
+use Rattle.plan_packed.specs.Inner.Steps.{Right, Ordered, tree_in}
 use Rattle.plan_packed.proofs.Accepted.{accepted}
 use Rattle.plan_packed.proofs.Decoded.{procedures_are, procedures_inside, well_formed}
 use Rattle.plan_packed.proofs.NodeOrder.{ordered, tree_is}

@@ -1,6 +1,6 @@
 -- Where calls are asked for the walk comes to their set. Assumes nothing.
-use Prim.Native.Nat.{ℕ, suc, ◌^◌, ◌<◌}
-use mathlib.Core.Path.{◌≡◌, refl, ap, ap₂, sym, ◌∙◌}
+use Prim.Native.Nat.{ℕ, ◌^◌, ◌<◌}
+use mathlib.Core.Path.{◌≡◌, refl, ap, ap₂, ◌∙◌}
 use mathlib.Core.Bool.{Bool, true, false, ◌||◌, or_assoc}
 use lib.Bits.{bit_or, or_lt}
 use lib.Dec.{eqb}

@@ -1,5 +1,5 @@
 -- A round: a procedure whose callees' costs are known gets its own, from its body's walk. Assumes nothing.
-use Prim.Native.Nat.{ℕ, zero, suc, ◌+◌, ◌*◌, ◌%◌, ◌^◌, ◌≤◌, ◌<◌}
+use Prim.Native.Nat.{ℕ, suc, ◌+◌, ◌^◌, ◌≤◌, ◌<◌}
 use native.Mathlib.Decide.{dec_lt, ℕ_discrete}
 use native.Mathlib.Omega.{arith}
 use mathlib.Core.Path.{◌≡◌, refl, sym, ap, ◌∙◌, subst}
@@ -8,7 +8,7 @@ use mathlib.Core.List.{List}
 use mathlib.Core.Logic.{◌⊎◌, inl, inr}
 use lib.Bits.{bit_or, or_lt}
 use lib.Dec.{eqb}
-use lib.ListN.{length, get_or, set, get_or-eq_default, length-set, replicate}
+use lib.ListN.{get_or, set, get_or-eq_default, length-set, replicate}
 use lib.Pow.{pow-lt}
 use lib.Seq.{get_or-set_same, get_or-set_other}
 use borrow.Author.Tests.{eq-eqb, ne_eqb}
@@ -17,14 +17,14 @@ use Rattle.run_keys.proofs.KeyLaws.{holds_empty, holds_singleton}
 use Rattle.plan_packed.specs.Format.{procedures, root}
 use Rattle.plan_packed.specs.Trees.{program_of}
 use Rattle.plan_packed.specs.Inner.Steps.{tree_in}
-use Rattle.costs.specs.Cost.{cost, body_cost}
-use Rattle.costs.specs.Calls.{calls, called}
+use Rattle.costs.specs.Cost.{body_cost}
+use Rattle.costs.specs.Calls.{called}
 use Rattle.costs.specs.Inner.Leading.{leads_on}
 use Rattle.costs.proofs.Below.{by_true}
 use Rattle.costs.proofs.Chains.{goes, one_less}
 use Rattle.costs.proofs.Fixed.{stable}
 use Rattle.plan_cost_walk.specs.Inner.Walked.{capped, entry_of, walked}
-use Rattle.bound.specs.Inner.Settling.{Loads, Bits, Called, SettledBy, Settled, Stuck}
+use Rattle.bound.specs.Inner.Settling.{Loads, Bits, Called, Settled, Stuck}
 use Rattle.bound.proofs.Counting.{counted}
 use Rattle.bound.proofs.CallSets.{found, within}
 use Rattle.bound.proofs.Sets.{which, has_it, grows, of_subset}

@@ -1,13 +1,13 @@
 -- Sets of procedures as numbers. Assumes nothing.
-use Prim.Native.Nat.{ℕ, zero, suc, ◌+◌, ◌*◌, ◌/◌, ◌%◌, ◌^◌, ◌≤◌, ◌<◌, max}
+use Prim.Native.Nat.{ℕ, zero, suc, ◌/◌, ◌%◌, ◌^◌, ◌≤◌, ◌<◌, max}
 use native.Mathlib.Nat.{pow-suc}
 use native.Mathlib.Omega.{arith}
 use mathlib.Core.Path.{◌≡◌, refl, sym, ap, ◌∙◌}
-use mathlib.Core.Bool.{Bool, true, false, ◌||◌, true≢false}
+use mathlib.Core.Bool.{Bool, true, false, ◌||◌}
 use mathlib.Core.Logic.{◌⊎◌, inl, inr}
-use lib.Bits.{bit_or, bit_and, or_step, or_add_and, and_le_r, or_zero_l}
+use lib.Bits.{bit_or, or_step, or_add_and, and_le_r, or_zero_l}
 use lib.Dec.{eqb}
-use borrow.Author.Tests.{eqb-true, eq-eqb, ne_eqb}
+use borrow.Author.Tests.{eqb-true, eq-eqb}
 use Rattle.run_keys.specs.Keys.{singleton, holds, union, subset}
 use Rattle.run_keys.proofs.KeyLaws.{holds_zero, holds_suc, holds_singleton, holds_union}
 use Rattle.costs.proofs.Below.{either}

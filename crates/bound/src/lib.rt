@@ -10,13 +10,17 @@ ghost use Rattle.answers.specs.Answer.{answered};
 ghost use Rattle.bound.specs.NoMoreMoves.{NoMoreMoves};
 ghost use Rattle.bound.specs.Inner.Settling.{Loads};
 
-use answers::Answered;
 use plan_header::layout;
 use plan_operands::tags;
-use plan_refusals::Checked;
+use refusals::{Reason, Refusal};
 
 // Refusals 21 to 23 of a plan that passes the others and is in `words`, else the total.
-fn total_of(plan: &[u8], procedures: usize, count: usize, words: &[usize; 1024]) -> Answered
+fn total_of(
+    plan: &[u8],
+    procedures: usize,
+    count: usize,
+    words: &[usize; 1024],
+) -> Result<usize, Refusal>
     requires loads { Loads plan.now procedures words.now }
     requires count_value { count ≡ terms plan.now }
     ensures { answered result ≡ bounded plan.now }
@@ -25,37 +29,25 @@ fn total_of(plan: &[u8], procedures: usize, count: usize, words: &[usize; 1024])
     let mut costs = [0usize; 32];
     let done = settling::settle(plan, procedures, words, &calls, &mut costs);
     if settling::lowest_left(done, procedures) < procedures {
-        return Answered::Refused {
-            number: 21,
-            place: 0,
-        };
+        return Err(Reason::Cycle.at(0));
     }
     if plan_tag_search::occurs(words, count, tags::WHILE) {
-        return Answered::Refused {
-            number: 22,
-            place: 0,
-        };
+        return Err(Reason::While.at(0));
     }
     let total = costs[0] + 1;
     if total > 65535 {
-        return Answered::Refused {
-            number: 23,
-            place: 0,
-        };
+        return Err(Reason::Total.at(0));
     }
-    Answered::Value(total)
+    Ok(total)
 }
 
 // The entry `bound`, for any bytes: a refusal, or a number of moves that no schedule of the plan goes beyond.
-pub fn bound(plan: &[u8]) -> Answered
+pub fn bound(plan: &[u8]) -> Result<usize, Refusal>
     ensures answer { answered result ≡ bounded plan.now }
     ensures most { NoMoreMoves plan.now (answered result) }
 {
     let mut words = [0usize; 1024];
-    let checked = plan::load(plan, &mut words);
-    if let Checked::Refused { number, place } = checked {
-        return Answered::Refused { number, place };
-    }
+    plan::load(plan, &mut words)?;
     let procedures = layout::procedures(plan);
     let count = layout::terms(plan);
     total_of(plan, procedures, count, &words)

@@ -1,6 +1,5 @@
 // Whom each procedure calls, and what bodies cost: a body is walked once its callees' costs are known, so that each is walked once. Where calls form a cycle,
-// its
-// procedures are left. A set of procedures is a number, bit q for procedure q.
+// its procedures are left. A set of procedures is a number, bit q for procedure q.
 ghost use Rattle.std.specs.Prelude.{◌≡◌, ◌&&◌, not, ◌<◌, ◌≤◌, length, replicate};
 ghost use Rattle.format.specs.Inner.Lowest.{Lowest};
 ghost use Rattle.run_keys.specs.Keys.{holds, subset};
@@ -13,10 +12,8 @@ fn bits() -> [usize; 32]
     ensures { Bits 32 result }
 {
     let mut all = [0usize; 32];
-    let mut procedure = 0;
-    while procedure < 32 {
+    for procedure in 0..32 {
         all[procedure] = 1usize << procedure;
-        procedure += 1;
     }
     all
 }
@@ -28,11 +25,9 @@ pub fn calls(plan: &[u8], procedures: usize, words: &[usize; 1024]) -> [usize; 3
 {
     let bits = bits();
     let mut all = [0usize; 32];
-    let mut procedure = 0;
-    while procedure < procedures {
+    for procedure in 0..procedures {
         let root = layout::root(plan, procedure);
         all[procedure] = plan_cost_walk::walk_expression(words, root, &bits, false, 0);
-        procedure += 1;
     }
     all
 }
@@ -42,10 +37,7 @@ fn is_next(calls: usize, done: usize, procedure: usize) -> bool
     requires { procedure < 64 }
     ensures { result ≡ (not (holds done procedure) && subset calls done) }
 {
-    if (done >> procedure) % 2 == 1 {
-        return false;
-    }
-    calls | done == done
+    (done >> procedure) % 2 == 0 && calls | done == done
 }
 
 // The procedures that are next, one after the other, the last first: main is the first, and often calls later ones.
@@ -65,14 +57,11 @@ fn round(
     ensures stuck { result ≡ before → Stuck plan.now calls.now before }
 {
     let mut done = before;
-    let mut procedure = procedures;
-    while procedure > 0 {
-        procedure -= 1;
+    for procedure in (0..procedures).rev() {
         if is_next(calls[procedure], done, procedure) {
             let root = layout::root(plan, procedure);
-            let cost = plan_cost_walk::walk_expression(words, root, costs, true, 0);
-            costs[procedure] = cost;
-            done = done | (1usize << procedure);
+            costs[procedure] = plan_cost_walk::walk_expression(words, root, costs, true, 0);
+            done |= 1usize << procedure;
         }
     }
     done
@@ -107,12 +96,10 @@ pub fn lowest_left(done: usize, procedures: usize) -> usize
     requires { procedures < 64 }
     ensures { Lowest (λ p. not (holds done p)) procedures result }
 {
-    let mut procedure = 0;
-    while procedure < procedures {
+    for procedure in 0..procedures {
         if (done >> procedure) % 2 == 0 {
             return procedure;
         }
-        procedure += 1;
     }
-    procedure
+    procedures
 }

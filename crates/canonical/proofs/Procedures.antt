@@ -3,15 +3,13 @@ use Prim.Native.Nat.{ℕ, zero, suc, ◌+◌, ◌-◌, ◌*◌, ◌≤◌, ◌<�
 use native.Mathlib.Omega.{arith}
 use mathlib.Core.Path.{◌≡◌, refl, sym, ap, ◌∙◌}
 use mathlib.Core.List.{List, [], ◌∷◌}
-use mathlib.Core.Option.{none}
 use lib.ListN.{length}
 use lib.Seq.{sets}
 use Rattle.plan_packed.specs.Syntax.{Procedure}
 use Rattle.plan_packed.specs.Format
 use Rattle.plan_packed.specs.Format.{terms, parameters, root}
-use Rattle.plan_packed.specs.Inner.Steps.{Right, Ordered, tree_in}
-use Rattle.plan_packed.specs.Trees.{tree_at, procedure_at, procedures_from, program_of}
-use Rattle.plan_packed.specs.Check.{refusal}
+use Rattle.plan_packed.specs.Inner.Steps.{Right, Ordered}
+use Rattle.plan_packed.specs.Trees.{procedure_at, procedures_from, program_of}
 use Rattle.plan_packed.proofs.Accepted.{Accepted, accepted}
 use Rattle.plan_packed.proofs.Passing.{all_right}
 use Rattle.plan_packed.proofs.NodeOrder.{ordered, tree_is}

@@ -10,8 +10,10 @@ use borrow.Author.Tests.{le-ltb}
 use Rattle.format.specs.Refusal.{Refusal, lowest, refuse, or_else, first_refusal}
 use Rattle.format.proofs.LowestLaws.{whole_none}
 use Rattle.plan_packed.specs.Trees.{program_of}
-use Rattle.plan_refusals.specs.declared.Checked.{Checked}
-use Rattle.plan_refusals.specs.declared.Checked.TheVariants as checked
+use Rattle.std.specs.Prelude.{Ok, Err}
+use Rattle.refusals.specs.declared.Refusal as code
+use Rattle.refusals.specs.Numbers.{refusal_of}
+use Rattle.plan_refusals.proofs.Stages.{Checked}
 use Rattle.rules.specs.Run as run
 use Rattle.rules.specs.Play as play
 use Rattle.rules.specs.Play.{short_area, schedule_refusal, play_refusal, played, played_by, run_of}
@@ -40,24 +42,24 @@ long_area plan schedule area long = play_stages plan schedule area ∙ go (sched
 
 module _ (plan schedule area : List ℕ) (p : Played) (h : answered p ≡ played plan schedule area) (long : 12288 ≤ length area) (option : Bool) where
   -- refused
-  pub refused_charge : (k i : ℕ) → p.checked ≡ checked.Refused k i → refused (record { number = k; place = i }) ≡ charged plan schedule option
+  pub refused_charge : (c : code.Refusal) → p.checked ≡ Err c → refused (refusal_of c) ≡ charged plan schedule option
   unfolding answered played played_by charged answer_by
-  refused_charge k i e = go (schedule_refusal plan schedule) refl
+  refused_charge c e = go (schedule_refusal plan schedule) refl
     where
-      known : play.Played.refused (record { number = k; place = i }) ≡ played_by plan schedule (schedule_refusal plan schedule)
+      known : play.Played.refused (refusal_of c) ≡ played_by plan schedule (schedule_refusal plan schedule)
       known = ap (λ (y : Checked). answered_by y p.outcome) (sym e) ∙ h ∙ ap (played_by plan schedule) (long_area plan schedule area long)
 
-      go : (o : Option Refusal) → schedule_refusal plan schedule ≡ o → refused (record { number = k; place = i }) ≡ charged plan schedule option
+      go : (o : Option Refusal) → schedule_refusal plan schedule ≡ o → refused (refusal_of c) ≡ charged plan schedule option
       go (some r) q =
-          let y : play.Played.refused (record { number = k; place = i }) ≡ play.Played.refused r = known ∙ ap (played_by plan schedule) q in
-          let w : record { number = k; place = i } ≡ r = cc in
+          let y : play.Played.refused (refusal_of c) ≡ play.Played.refused r = known ∙ ap (played_by plan schedule) q in
+          let w : refusal_of c ≡ r = cc in
           rw (q, w)
       go none q =
-          let y : play.Played.refused (record { number = k; place = i }) ≡ played_by plan schedule none = known ∙ ap (played_by plan schedule) q in
+          let y : play.Played.refused (refusal_of c) ≡ played_by plan schedule none = known ∙ ap (played_by plan schedule) q in
           absurd (true≢false cc)
 
   -- a run
-  pub ran_charge : p.checked ≡ checked.Passed → (n : ℕ) → n ≡ price_by option (stop_of p.outcome.stop) p.outcome.moves
+  pub ran_charge : p.checked ≡ Ok tt → (n : ℕ) → n ≡ price_by option (stop_of p.outcome.stop) p.outcome.moves
       → value n ≡ charged plan schedule option
   unfolding charged answer_by charge_of outcome_of
   ran_charge e n q =

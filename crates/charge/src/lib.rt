@@ -6,8 +6,7 @@ ghost use Rattle.answers.specs.Answer.{answered};
 ghost use Rattle.play.specs.Answer.{stop_of};
 ghost use Rattle.charge.specs.Charge.{price_by, charged};
 
-use answers::Answered;
-use plan_refusals::Checked;
+use refusals::Refusal;
 use run_outcome::Stop;
 use run_prices::price;
 
@@ -24,21 +23,12 @@ fn price_by(option: bool, stop: Stop, moves: usize) -> usize
 }
 
 // Every plan, schedule and option gets document 02's answer: a refusal of number 1 to 9 with its place, or the cents. The run's log stays inside.
-pub fn charge(plan: &[u8], schedule: &[u8], option: bool) -> Answered
+pub fn charge(plan: &[u8], schedule: &[u8], option: bool) -> Result<usize, Refusal>
     ensures answer { answered result ≡ charged plan.now schedule.now option }
 {
     let mut log = [0u8; 12288];
     let played = play::play(plan, schedule, &mut log);
-    let checked = played.checked;
+    played.checked?;
     let outcome = played.outcome;
-    match checked {
-        Checked::Refused { number, place } => Answered::Refused {
-            number: number,
-            place: place,
-        },
-        Checked::Passed => {
-            let stop = outcome.stop;
-            Answered::Value(price_by(option, stop, outcome.moves))
-        }
-    }
+    Ok(price_by(option, outcome.stop, outcome.moves))
 }

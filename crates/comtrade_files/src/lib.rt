@@ -3,7 +3,7 @@
 
 ghost use Rattle.std.specs.Prelude.{◌≤◌};
 
-use answers::Answered;
+use refusals::Refusal;
 use std::io;
 use std::rt::Files;
 
@@ -27,9 +27,14 @@ fn write_configuration<R: Files + Eprint + Alloc>(rt: &R, name: &[u8], samples: 
 }
 
 // The lines of a refusal, on standard output.
-fn say_refusal(rt: &impl Print, number: usize, place: usize) -> io::Result<()> {
+fn say_refusal(rt: &impl Print, refusal: Refusal) -> io::Result<()> {
     let mut area = [0u8; 200];
-    let length = text_refusal_lines::put_refusal_lines(&mut area, 0, number, place);
+    let length = text_refusal_lines::put_refusal_lines(
+        &mut area,
+        0,
+        refusal.number(),
+        refusal.place,
+    );
     rt.write_all(&area[..length])
 }
 
@@ -41,10 +46,9 @@ pub fn write_log<R: Files + Print + Eprint + Alloc>(
     configuration: &[u8],
 ) -> io::Result<()> {
     let mut area = file_area();
-    let answered = waveform::comtrade(log, &mut area);
-    match answered {
-        Answered::Refused { number, place } => say_refusal(rt, number, place),
-        Answered::Value(length) => {
+    match waveform::comtrade(log, &mut area) {
+        Err(refusal) => say_refusal(rt, refusal),
+        Ok(length) => {
             program_files::write_file(rt, data, &area[..length]);
             write_configuration(rt, configuration, log.len() / 3);
             Ok(())

@@ -1,15 +1,15 @@
 -- What is drawn is the picture of the log. Assumes nothing.
-use Prim.Native.Nat.{ℕ, zero, suc, ◌+◌, ◌*◌, ◌/◌, ◌<◌, ◌≤◌}
+use Prim.Native.Nat.{ℕ, zero, suc, ◌/◌, ◌<◌, ◌≤◌}
 use native.Mathlib.Omega.{arith}
 use mathlib.Core.Path.{◌≡◌, refl, sym, ap, ◌∙◌, subst as along}
 use mathlib.Core.List.{List, [], ◌∷◌, ◌++◌}
 use mathlib.Core.Option.{Option, some, none, none-ne-some}
+use Rattle.std.specs.Prelude.{Option as CodeOption, Some, None}
 use lib.ListN.{length, length-append, get_or, drop}
 use Rattle.format.specs.Area.{overwrite}
+use Rattle.format.specs.Refusal.{Refusal}
 use Rattle.format.specs.Version.{Version, version_of}
-use Rattle.log_records.specs.Record.{Record}
 use Rattle.log_records.specs.Packed.{record_count, log_of}
-use Rattle.log_records.specs.Refusals.{log_refusal}
 use Rattle.log_records.proofs.RoundTrip.{length_log}
 use Rattle.log_order.proofs.Past.{at_within}
 use Rattle.log_conflicts.specs.Judge.{refused, named, names_first, names_none, Answers, refuses, judges, AnswersTold, wrong_version, right_version}
@@ -19,7 +19,6 @@ use Rattle.log_arrows.proofs.PairLaws.{pair_within}
 use Rattle.text.specs.Inner.Wrote.{Wrote}
 use Rattle.text.proofs.Added.{added_as, added_whole}
 use Rattle.text_diagram_elements.specs.declared.Race.{Race}
-use Rattle.text_diagram_elements.specs.declared.Race.TheVariants.{Between, Nowhere}
 use Rattle.text_diagram_elements.specs.Diagram.{diagram_text, arrows_of, race_of}
 use Rattle.text_diagram_elements.specs.Inner.Drawn.{ArrowsInside, RaceInside}
 use Rattle.text_judge_lines.specs.Inner.Search.{Named, LastOf}
@@ -45,7 +44,7 @@ arrows_inside v b n from to f t A =
       end_inside = λ k h. omega (arith, (pair_within n k from to A h).1, length_log b);
     }
 
-pub wrote_arrows : (v : Version) (b : List ℕ) (race : Race) (n : ℕ) (from to : List ℕ) {before after : List ℕ} {r : ℕ}
+pub wrote_arrows : (v : Version) (b : List ℕ) (race : CodeOption Race) (n : ℕ) (from to : List ℕ) {before after : List ℕ} {r : ℕ}
     → AllArrows v (log_of b) (pairs n from to)
     → Wrote before 0 (diagram_text (log_of b) (arrows_of from to n) (race_of race)) after r → WroteArrows v b race before after r
 wrote_arrows v b race n from to A w =
@@ -68,14 +67,14 @@ red_inside b (unordered {j = j} c low last) w a e =
     let l = c.before in
     (omega (arith, length_log b), omega (arith, length_log b))
 
-pub race_inside : {version : ℕ} {b : List ℕ} {race : Race} → Judged version b race → RaceInside race (length b / 3)
+pub race_inside : {version : ℕ} {b : List ℕ} {race : CodeOption Race} → Judged version b race → RaceInside race (length b / 3)
 race_inside {b = b} J =
     record {
-      write_inside = λ w a e. (red_inside b J.red w a (ap race_of e)).0;
-      access_inside = λ w a e. (red_inside b J.red w a (ap race_of e)).1;
+      write_inside = λ r e. (red_inside b J.red r.write r.access (ap race_of e)).0;
+      access_inside = λ r e. (red_inside b J.red r.write r.access (ap race_of e)).1;
     }
 
-pub red_last : {version : ℕ} {b : List ℕ} {j i : ℕ} → NamedBy version b j → LastOf (version_of version) b j i → Judged version b (Between i j)
+pub red_last : {version : ℕ} {b : List ℕ} {j i : ℕ} → NamedBy version b j → LastOf (version_of version) b j i → Judged version b (Some (record { write = i; access = j }))
 red_last {version} {b} {j} {i} N L =
     record {
       version_known = N.version_known;
@@ -87,7 +86,7 @@ red_last {version} {b} {j} {i} N L =
 -- ---- the answer
 
 module _ {version : ℕ} {b area : List ℕ} where
-  pub drawn : {race : Race} {late : List ℕ} {r : ℕ} → Judged version b race → room_for (length b / 3) ≤ length area
+  pub drawn : {race : CodeOption Race} {late : List ℕ} {r : ℕ} → Judged version b race → room_for (length b / 3) ≤ length area
       → WroteArrows (version_of version) b race area late r → Pictured version b area (Answer.value r) late
   unfolding overwrite record_count
   drawn {race} {late} {r} J room W =
@@ -99,17 +98,15 @@ module _ {version : ℕ} {b area : List ℕ} where
       (picture.shows J.version_known J.passed room
       (record { arrows = W.arrows; race = race_of race; all_arrows = W.all_arrows; red = J.red; text_is = refl })))
 
-  pub too_short : {race : Race} → Judged version b race → length area < room_for (length b / 3)
+  pub too_short : {race : CodeOption Race} → Judged version b race → length area < room_for (length b / 3)
       → Pictured version b area (Answer.refused (record { number = 27; place = 0 })) area
   unfolding record_count
   too_short J h = picture.short J.version_known J.passed h
 
-  refused_by : {k i : ℕ} → version ≤ 1 → Answers (version_of version) b (refused (record { number = k; place = i }))
-      → Pictured version b area (Answer.refused (record { number = k; place = i })) area
+  refused_by : {r : Refusal} → version ≤ 1 → Answers (version_of version) b (refused r) → Pictured version b area (Answer.refused r) area
   refused_by l (refuses e) = picture.refuses l e
 
-  pub refused_picture : {k i : ℕ} → AnswersTold version b (refused (record { number = k; place = i }))
-      → Pictured version b area (Answer.refused (record { number = k; place = i })) area
+  pub refused_picture : {r : Refusal} → AnswersTold version b (refused r) → Pictured version b area (Answer.refused r) area
   refused_picture (wrong_version h) = picture.wrong_version h
   refused_picture (right_version l a) = refused_by l a
 
@@ -125,10 +122,10 @@ value_within {version} {b} {area} {late} e p = within (along (λ (x : Answer). P
 -- ---- what the judge answers
 
 module _ {version : ℕ} {b : List ℕ} where
-  ordered_by : version ≤ 1 → Answers (version_of version) b (named none) → Judged version b Nowhere
+  ordered_by : version ≤ 1 → Answers (version_of version) b (named none) → Judged version b None
   ordered_by l (judges e (names_none f)) = record { version_known = l; passed = e; red = ordered f }
 
-  pub ordered_judged : AnswersTold version b (named none) → Judged version b Nowhere
+  pub ordered_judged : AnswersTold version b (named none) → Judged version b None
   ordered_judged (right_version l a) = ordered_by l a
 
   named_by : {j : ℕ} → version ≤ 1 → Answers (version_of version) b (named (some j)) → NamedBy version b j

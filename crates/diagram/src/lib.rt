@@ -8,12 +8,11 @@ ghost use Rattle.answers.specs.Answer.{answered};
 ghost use Rattle.diagram.specs.Picture.{Pictured};
 ghost use Rattle.diagram.specs.Inner.Drawing.{Judged, NamedBy, Roomy, WroteArrows};
 
-use answers::Answered;
-use judge::Judgement;
+use refusals::{Reason, Refusal};
 use text_diagram_elements::Race;
 
 // Writes the text of a log's picture at the area's start, and returns its length. A record has at most seven arrows.
-fn put_picture(version: usize, log: &[u8], race: Race, area: &mut [u8]) -> usize
+fn put_picture(version: usize, log: &[u8], race: Option<Race>, area: &mut [u8]) -> usize
     requires { Roomy version log.now race (length area.old) }
     ensures { WroteArrows (version_of version) log.now race area.old area.new result }
 {
@@ -24,43 +23,36 @@ fn put_picture(version: usize, log: &[u8], race: Race, area: &mut [u8]) -> usize
 }
 
 // The answer to a log that is not refused: refusal 27 for an area that has no room for every picture of so many records.
-fn draw(version: usize, log: &[u8], race: Race, area: &mut [u8]) -> Answered
+fn draw(version: usize, log: &[u8], race: Option<Race>, area: &mut [u8]) -> Result<usize, Refusal>
     requires { Judged version log.now race }
     ensures { Pictured version log.now area.old (answered result) area.new }
 {
     if area.len() < 1792 + 654 * (log.len() / 3) {
-        return Answered::Refused {
-            number: 27,
-            place: 0,
-        };
+        return Err(Reason::PictureArea.at(0));
     }
-    Answered::Value(put_picture(version, log, race, area))
+    Ok(put_picture(version, log, race, area))
 }
 
 // The answer to a log in which the judge names an access.
-fn draw_race(version: usize, log: &[u8], access: usize, area: &mut [u8]) -> Answered
+fn draw_race(version: usize, log: &[u8], access: usize, area: &mut [u8]) -> Result<usize, Refusal>
     requires { NamedBy version log.now access }
     ensures { Pictured version log.now area.old (answered result) area.new }
 {
     let earlier = text_judge_lines::search::last_conflict(version, log, access);
-    let race = Race::Between {
+    let race = Some(Race {
         write: earlier,
-        access: access,
-    };
+        access,
+    });
     draw(version, log, race, area)
 }
 
 // Every log of a version gets its picture at the start of the area, and the text's length; or refusal 14, 11 or 12 as the judge gives it, or 27.
-pub fn diagram(version: usize, log: &[u8], area: &mut [u8]) -> Answered
+pub fn diagram(version: usize, log: &[u8], area: &mut [u8]) -> Result<usize, Refusal>
     ensures { Pictured version log.now area.old (answered result) area.new }
 {
-    let judgement = judge::judge(version, log);
-    match judgement {
-        Judgement::Refused { number, place } => Answered::Refused {
-            number: number,
-            place: place,
-        },
-        Judgement::Ordered => draw(version, log, Race::Nowhere, area),
-        Judgement::Unordered(index) => draw_race(version, log, index, area),
+    let judged = judge::judge(version, log)?;
+    match judged {
+        None => draw(version, log, None, area),
+        Some(index) => draw_race(version, log, index, area),
     }
 }

@@ -18,8 +18,11 @@ use Rattle.plan_packed.specs.Trees.{program_of}
 use Rattle.plan_packed.specs.Check.{checks, refusal}
 use Rattle.plan_packed.specs.Inner.Steps.{Loaded}
 use Rattle.plan_refusals.specs.Answer as check
-use Rattle.plan_refusals.specs.declared.Checked.{Checked}
-use Rattle.plan_refusals.specs.declared.Checked.TheVariants as checked
+use Rattle.std.specs.Prelude.{Ok, Err, Some, None}
+use Rattle.std.specs.Prelude as rust
+use Rattle.refusals.specs.declared.Refusal as code
+use Rattle.refusals.specs.Numbers.{refusal_of}
+use Rattle.plan_refusals.proofs.Stages.{Checked}
 use Rattle.rules.specs.Play.{schedule_refusal}
 use Rattle.text.specs.Inner.Wrote.{Wrote}
 use Rattle.answers.specs.Answer as answer
@@ -29,8 +32,6 @@ use Rattle.listing.specs.Inner.CanFollow.{can_follow}
 use Rattle.listing.specs.Inner.Ways.{Way}
 use Rattle.listing.proofs.Order.{empty_lowest}
 use Rattle.listing.proofs.Ways.{no_picks}
-use Rattle.interleavings.specs.declared.Next.{Next}
-use Rattle.interleavings.specs.declared.Next.TheVariants as next
 use Rattle.listing_answers.specs.Interleavings as papers
 use Rattle.listing_answers.specs.Interleavings.{over_bound, FirstAnswer, NextAnswer}
 use Rattle.interleavings.specs.Answer.{answered}
@@ -44,7 +45,7 @@ use Rattle.interleavings.proofs.GoingBack.{turned_way, turned_least, turned_abov
 
 -- ---- to begin
 
-module _ (plan : List ℕ) (n : ℕ) (area : List ℕ) (r : Checked) (h : check.answered r ≡ refusal plan) (e : r ≡ checked.Passed) where
+module _ (plan : List ℕ) (n : ℕ) (area : List ℕ) (r : Checked) (h : check.answered r ≡ refusal plan) (e : r ≡ Ok tt) where
   pub accepted_plan : (words : List ℕ) → Loaded plan (terms plan) words → Accepted plan words
   accepted_plan words l = record { plan_passes = passed_is _ r h e; loaded = l }
 
@@ -100,7 +101,7 @@ module _ (g : Program) (n : ℕ) (ps : List ℕ) (x : Listed g n ps) (area : Lis
               (along (Way (can_follow g)) (sym front) (turned_way g n ps x place pick t));
         }
 
-    pub followed : (after : List ℕ) (at : ℕ) → Reached g n from middle after at → Followed g n ps area after (next.Written at)
+    pub followed : (after : List ℕ) (at : ℕ) → Reached g n from middle after at → Followed g n ps area after (Some at)
     followed after at y =
         let m : length qs ≡ at = taken y still_long in (
           qs,
@@ -127,7 +128,7 @@ module _ (g : Program) (n : ℕ) (ps : List ℕ) (x : Listed g n ps) (area : Lis
             ∙ drop-drop (at - from) from area ∙ ap (λ (k : ℕ). drop k area) e
 
 module _
-    (plan : List ℕ) (n : ℕ) (schedule area : List ℕ) (r : Checked) (h : check.answered r ≡ schedule_refusal plan schedule) (e : r ≡ checked.Passed)
+    (plan : List ℕ) (n : ℕ) (schedule area : List ℕ) (r : Checked) (h : check.answered r ≡ schedule_refusal plan schedule) (e : r ≡ Ok tt)
   where
     pub given_plan_lem : (words : List ℕ) → Loaded plan (terms plan) words → Accepted plan words
     given_plan_lem words l = record { plan_passes = (scheduled_by_code plan schedule r h e).plan_passes; loaded = l }
@@ -135,13 +136,12 @@ module _
     pub given_picks : OfEight schedule
     given_picks j b = let k = (scheduled_by_code plan schedule r h e).small j b in omega arith
 
-    pub next_followed : n ≤ 64 → Listed (program_of plan) n schedule → n ≤ length area → (after : List ℕ) (a : Next)
-        → Followed (program_of plan) n schedule area after a → NextAnswer plan n schedule area (answered a) after
-    next_followed b l s after (next.Refused k i) f = absurd f
-    next_followed b l s after (next.Written m) (qs, f, d, q) =
+    pub next_followed : n ≤ 64 → Listed (program_of plan) n schedule → n ≤ length area → (after : List ℕ) (a : rust.Option ℕ)
+        → Followed (program_of plan) n schedule area after a → NextAnswer plan n schedule area (answered (Ok a)) after
+    next_followed b l s after (Some m) (qs, f, d, q) =
         along (λ (k : ℕ). NextAnswer plan n schedule area (papers.Next.written k) after) (sym d)
         (along (NextAnswer plan n schedule area (papers.Next.written (length qs))) (sym q) (next_written plan n schedule area r h e b l s qs f))
-    next_followed b l s after next.Over (f, q) = along (NextAnswer plan n schedule area papers.Next.over) (sym q) (next_over plan n schedule area r h e b l s f)
+    next_followed b l s after None (f, q) = along (NextAnswer plan n schedule area papers.Next.over) (sym q) (next_over plan n schedule area r h e b l s f)
 
 -- ---- counting
 
@@ -151,10 +151,10 @@ module _ (plan : List ℕ) (n : ℕ) where
   count_stages = refusal_append (checks plan) (check_whole 18 (over_bound n) ∷ [])
 
   module _ (r : Checked) (h : check.answered r ≡ refusal plan) where
-    pub count_refused_lem : (k i : ℕ) → r ≡ checked.Refused k i → count_refused plan n ≡ some (record { number = k; place = i })
-    count_refused_lem k i e = count_stages ∙ first_or _ _ _ (refused_is _ r k i h e)
+    pub count_refused_lem : (c : code.Refusal) → r ≡ Err c → count_refused plan n ≡ some (refusal_of c)
+    count_refused_lem c e = count_stages ∙ first_or _ _ _ (refused_is _ r c h e)
 
-    module _ (e : r ≡ checked.Passed) where
+    module _ (e : r ≡ Ok tt) where
       pub count_over_bound : 64 < n → count_refused plan n ≡ some (numbered 18)
       unfolding over_bound
       count_over_bound b = count_stages ∙ then_other _ _ (passed_is _ r h e) ∙ refuses 18 (over_bound n) _ (lt-ltb 64 n b)

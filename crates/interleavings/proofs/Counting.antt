@@ -18,9 +18,8 @@ use Rattle.listing.proofs.Order.{empty_lowest}
 use Rattle.listing.proofs.WholeList.{at_first, at_next, at_last, whole_list}
 use Rattle.run_replays.specs.Inner.Replay.{Accepted}
 use Rattle.run_replays.specs.Inner.Told.{Tells, Listable, ListedBy}
-use Rattle.interleavings.specs.declared.Next.TheVariants as next
-use Rattle.interleavings.specs.declared.Counted.{Counted}
-use Rattle.interleavings.specs.declared.Counted.TheVariants as counted
+use Rattle.std.specs.Prelude.{Ok, Some, None}
+use Rattle.std.specs.Prelude as rust
 use Rattle.interleavings.specs.Inner.Steps.{Reached, Listing, Followed, Stands, CountsOn}
 use Rattle.interleavings.specs.Count.{count_refused, CountAnswer}
 
@@ -56,11 +55,11 @@ module _ {plan words : List ℕ} {n : ℕ} {area : List ℕ} {picks place : ℕ}
   longer L w = inside L place (take picks area) (s.at_place L w)
 
   -- the list is over
-  pub at_end : (room after : List ℕ) → Followed g n (take (picks - 0) area) room after next.Over → (L : List (List ℕ)) → WholeList g n L → length L ≡ place + 1
+  pub at_end : (room after : List ℕ) → Followed g n (take (picks - 0) area) room after None → (L : List (List ℕ)) → WholeList g n L → length L ≡ place + 1
   at_end room after (o, e) L w = rw add-one (at_last g n place w.begins (s.at_place L w) (along (Over g n) (sym same) o))
 
   -- the following schedule
-  module _ (room after : List ℕ) (m : ℕ) (f : Followed g n (take (picks - 0) area) room after (next.Written m)) where
+  module _ (room after : List ℕ) (m : ℕ) (f : Followed g n (take (picks - 0) area) room after (Some m)) where
     abbrev qs : List ℕ
     qs = f.0
 
@@ -104,7 +103,6 @@ stands_first plan words n room after at a b h x =
     }
 
 -- the answer
-pub count_answer : (plan : List ℕ) (n limit : ℕ) → count_refused plan n ≡ none → (r : Counted) → CountsOn plan n limit r → CountAnswer plan n limit r
-count_answer plan n limit e (counted.Refused k i) x = absurd x
-count_answer plan n limit e (counted.All r) (x, h) = let l = whole_list (program_of plan) n in (e, l.0, l.1, x l.0 l.1, h)
-count_answer plan n limit e counted.More x = let l = whole_list (program_of plan) n in (e, l.0, l.1, x l.0 l.1)
+pub count_answer : (plan : List ℕ) (n limit : ℕ) → count_refused plan n ≡ none → (r : rust.Option ℕ) → CountsOn plan n limit r → CountAnswer plan n limit (Ok r)
+count_answer plan n limit e (Some r) (x, h) = let l = whole_list (program_of plan) n in (e, l.0, l.1, x l.0 l.1, h)
+count_answer plan n limit e None x = let l = whole_list (program_of plan) n in (e, l.0, l.1, x l.0 l.1)

@@ -6,8 +6,9 @@ use Rattle.plan_packed.specs.Trees.{program_of}
 use Rattle.plan_packed.specs.Check.{checks}
 use Rattle.listing.specs.WholeList.{WholeList}
 use Rattle.listing_answers.specs.Interleavings.{over_bound}
-use Rattle.interleavings.specs.declared.Counted.{Counted}
-use Rattle.interleavings.specs.declared.Counted.TheVariants as counted
+use Rattle.std.specs.Prelude as code
+use Rattle.refusals.specs.declared.Refusal as refused
+use Rattle.refusals.specs.Numbers.{refusal_of}
 
 -- checks 1 to 7, and 18: there is no given schedule and no area
 unfoldable pub count_refused : List ℕ → ℕ → Option Refusal
@@ -15,8 +16,8 @@ unfolding checks over_bound first_refusal
 count_refused plan n = first_refusal (checks plan ++ (check_whole 18 (over_bound n) ∷ []))
 
 -- the answer: a refusal, the length of the whole list, or that it is longer than the limit
-abbrev pub CountAnswer : (plan : List ℕ) → (n limit : ℕ) → Counted → Type 0
-CountAnswer plan n limit (counted.Refused number place) = count_refused plan n ≡ some (record { number = number; place = place })
-CountAnswer plan n limit (counted.All r) =
+abbrev pub CountAnswer : (plan : List ℕ) → (n limit : ℕ) → code.Result (code.Option ℕ) refused.Refusal → Type 0
+CountAnswer plan n limit (code.Err r) = count_refused plan n ≡ some (refusal_of r)
+CountAnswer plan n limit (code.Ok (code.Some r)) =
     (count_refused plan n ≡ none) × (L : List (List ℕ)) × WholeList (program_of plan) n L × (r ≡ length L) × (r ≤ limit)
-CountAnswer plan n limit counted.More = (count_refused plan n ≡ none) × (L : List (List ℕ)) × WholeList (program_of plan) n L × (limit < length L)
+CountAnswer plan n limit (code.Ok code.None) = (count_refused plan n ≡ none) × (L : List (List ℕ)) × WholeList (program_of plan) n L × (limit < length L)

@@ -9,31 +9,7 @@ ghost use Rattle.interleavings.specs.Answer.{answered};
 ghost use Rattle.interleavings.specs.Count.{CountAnswer};
 ghost use Rattle.interleavings.specs.Inner.Steps.{Begins, Reached, Listing, Followed, Stands, Advanced, CountsOn};
 
-use answers::Answered;
-use plan_refusals::Checked;
-use run_place_notes::Departure;
-
-// What `next_interleaving` answers.
-#[derive(Clone, Copy)]
-pub enum Next {
-    // It is refused: document 01's number and place.
-    Refused { number: usize, place: usize },
-    // The following schedule is written; its length.
-    Written(usize),
-    // The list is over.
-    Over,
-}
-
-// What `count` answers.
-#[derive(Clone, Copy)]
-pub enum Counted {
-    // It is refused: document 01's number and place.
-    Refused { number: usize, place: usize },
-    // So many schedules are listed.
-    All(usize),
-    // More than the limit are.
-    More,
-}
+use refusals::{Reason, Refusal};
 
 // From the first `from` picks of the area on, the lowest pick that can follow, until there are n or none can; how many picks that makes.
 fn go_on(plan: &[u8], words: &[usize; 1024], n: usize, area: &mut [u8], from: usize) -> usize
@@ -56,81 +32,56 @@ fn following(
     schedule: &[u8],
     notes: &[u8],
     area: &mut [u8],
-) -> Next
+) -> Option<usize>
     requires { Listing plan.now words.now n schedule.now notes.now area.old }
     ensures { Followed (program_of plan.now) n schedule.now area.old area.new result }
 {
-    let turn = run_place_notes::last_departure(notes, schedule.len());
-    match turn {
-        Departure::Over => Next::Over,
-        Departure::At { place, pick } => {
-            let end = text::put_word(area, 0, &schedule[0..place]);
-            let from = text::put_byte(area, end, pick as u8);
-            Next::Written(go_on(plan, words, n, area, from))
-        }
-    }
+    let departure = run_place_notes::last_departure(notes, schedule.len())?;
+    let end = text::put_word(area, 0, &schedule[0..departure.place]);
+    let from = text::put_byte(area, end, departure.pick as u8);
+    Some(go_on(plan, words, n, area, from))
 }
 
 // Every plan, bound and area gets document 02's answer: a refusal of number 1 to 7 with its place, or of number 18 or 20, and no byte of the area changed; or
 // the length of the least listed schedule, with which the area then begins, and otherwise is as it was.
-pub fn first_interleaving(plan: &[u8], n: usize, area: &mut [u8]) -> Answered
+pub fn first_interleaving(plan: &[u8], n: usize, area: &mut [u8]) -> Result<usize, Refusal>
     ensures { FirstAnswer plan.now n area.old (answer.answered result) area.new }
 {
     let mut words = [0usize; 1024];
-    let checked = plan::load(plan, &mut words);
-    match checked {
-        Checked::Refused { number, place } => Answered::Refused { number, place },
-        Checked::Passed => {
-            if n > 64 {
-                return Answered::Refused {
-                    number: 18,
-                    place: 0,
-                };
-            }
-            if area.len() < n {
-                return Answered::Refused {
-                    number: 20,
-                    place: 0,
-                };
-            }
-            Answered::Value(go_on(plan, &words, n, area, 0))
-        }
+    plan::load(plan, &mut words)?;
+    if n > 64 {
+        return Err(Reason::Bound.at(0));
     }
+    if area.len() < n {
+        return Err(Reason::BoundArea.at(0));
+    }
+    Ok(go_on(plan, &words, n, area, 0))
 }
 
 // Every plan, bound, schedule and area gets document 02's answer: a refusal of number 1 to 9 with its place, or of number 18 to 20, and no byte of the area
 // changed; or the length of the least listed schedule above the given one, with which the area then begins, and otherwise is as it was; or that the list is
 // over, and no byte changed.
-pub fn next_interleaving(plan: &[u8], n: usize, schedule: &[u8], area: &mut [u8]) -> Next
+pub fn next_interleaving(
+    plan: &[u8],
+    n: usize,
+    schedule: &[u8],
+    area: &mut [u8],
+) -> Result<Option<usize>, Refusal>
     ensures { NextAnswer plan.now n schedule.now area.old (answered result) area.new }
 {
     let mut words = [0usize; 1024];
-    let checked = run_refusals::schedule_refusal(plan, schedule, &mut words);
-    match checked {
-        Checked::Refused { number, place } => Next::Refused { number, place },
-        Checked::Passed => {
-            if n > 64 {
-                return Next::Refused {
-                    number: 18,
-                    place: 0,
-                };
-            }
-            let mut notes = [0u8; 64];
-            if !run_replays::listed(plan, &words, n, schedule, &mut notes) {
-                return Next::Refused {
-                    number: 19,
-                    place: 0,
-                };
-            }
-            if area.len() < n {
-                return Next::Refused {
-                    number: 20,
-                    place: 0,
-                };
-            }
-            following(plan, &words, n, schedule, &notes, area)
-        }
+    run_refusals::schedule_refusal(plan, schedule, &mut words)?;
+    if n > 64 {
+        return Err(Reason::Bound.at(0));
     }
+    let mut notes = [0u8; 64];
+    if !run_replays::listed(plan, &words, n, schedule, &mut notes) {
+        return Err(Reason::NotListed.at(0));
+    }
+    if area.len() < n {
+        return Err(Reason::BoundArea.at(0));
+    }
+    Ok(following(plan, &words, n, schedule, &notes, area))
 }
 
 // From the schedule at the beginning of the area to the following one, in its place.
@@ -141,19 +92,15 @@ fn advance(
     area: &mut [u8],
     picks: usize,
     place: usize,
-) -> Next
+) -> Option<usize>
     requires { Stands plan.now words.now n area.old picks place }
     ensures { Advanced plan.now words.now n area.new place result }
 {
     let mut notes = [0u8; 64];
     run_replays::listed(plan, words, n, &area[0..picks], &mut notes);
     let mut after = [0u8; 64];
-    let next = following(plan, words, n, &area[0..picks], &notes, &mut after);
-    match next {
-        Next::Written(length) => Next::Written(text::put_word(area, 0, &after[0..length])),
-        Next::Over => Next::Over,
-        Next::Refused { number, place } => Next::Refused { number, place },
-    }
+    let length = following(plan, words, n, &area[0..picks], &notes, &mut after)?;
+    Some(text::put_word(area, 0, &after[0..length]))
 }
 
 // From the first schedule on, one by one, until the list is over or longer than the limit.
@@ -164,49 +111,31 @@ fn count_on(
     limit: usize,
     area: &mut [u8],
     first: usize,
-) -> Counted
+) -> Option<usize>
     requires { Stands plan.now words.now n area.old first 0 }
     ensures { CountsOn plan.now n limit result }
 {
     let mut picks = first;
-    let mut place = 0;
-    while place < limit {
-        let next = advance(plan, words, n, area, picks, place);
-        match next {
-            Next::Written(length) => {
-                picks = length;
-                place += 1;
-            }
-            Next::Over => {
-                return Counted::All(place + 1);
-            }
-            Next::Refused { number, place } => {
-                return Counted::Refused { number, place };
-            }
-        }
+    for place in 0..limit {
+        let Some(length) = advance(plan, words, n, area, picks, place) else {
+            return Some(place + 1);
+        };
+        picks = length;
     }
-    Counted::More
+    None
 }
 
 // Every plan, bound and limit gets an answer: a refusal of number 1 to 7 with its place, or of number 18; or how many schedules are listed; or that more than
 // the limit are.
-pub fn count(plan: &[u8], n: usize, limit: usize) -> Counted
+pub fn count(plan: &[u8], n: usize, limit: usize) -> Result<Option<usize>, Refusal>
     ensures { CountAnswer plan.now n limit result }
 {
     let mut words = [0usize; 1024];
-    let checked = plan::load(plan, &mut words);
-    match checked {
-        Checked::Refused { number, place } => Counted::Refused { number, place },
-        Checked::Passed => {
-            if n > 64 {
-                return Counted::Refused {
-                    number: 18,
-                    place: 0,
-                };
-            }
-            let mut area = [0u8; 64];
-            let first = go_on(plan, &words, n, &mut area, 0);
-            count_on(plan, &words, n, limit, &mut area, first)
-        }
+    plan::load(plan, &mut words)?;
+    if n > 64 {
+        return Err(Reason::Bound.at(0));
     }
+    let mut area = [0u8; 64];
+    let first = go_on(plan, &words, n, &mut area, 0);
+    Ok(count_on(plan, &words, n, limit, &mut area, first))
 }

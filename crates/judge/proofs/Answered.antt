@@ -13,14 +13,14 @@ use Rattle.log_records.specs.Refusals.{log_refusal}
 use Rattle.log_conflicts.specs.Judge.{Answers, judges}
 use Rattle.judge.specs.Answer.{answered}
 use Rattle.judge.specs.Inner.Clear.{large_table}
-use Rattle.judge.specs.Inner.Found.{Finds, finds_access, finds_nothing, finds_full, judgement_of, is_full}
-use Rattle.judge.specs.declared.Judgement.{Judgement}
-use Rattle.judge.specs.declared.pass.Found.{Found}
+use Rattle.judge.specs.Inner.Found.{Found, Finds, finds_access, finds_nothing, finds_full, judgement_of, is_full}
+use Rattle.std.specs.Prelude as rust
+use Rattle.std.specs.Prelude.{Ok}
 
-pub answers_found : {v : Version} {b : List ℕ} {places : ℕ} {f : Found} → log_refusal b ≡ none → Finds v b places f → is_full f ≡ false → (j : Judgement)
-    → j ≡ judgement_of f → Answers v b (answered j)
-answers_found {v} {b} ok (finds_access n) h j e = subst (λ (x : Judgement). Answers v b (answered x)) (sym e) (judges ok n)
-answers_found {v} {b} ok (finds_nothing n) h j e = subst (λ (x : Judgement). Answers v b (answered x)) (sym e) (judges ok n)
+pub answers_found : {v : Version} {b : List ℕ} {places : ℕ} {f : Found} → log_refusal b ≡ none → Finds v b places f → is_full f ≡ false → (j : rust.Option ℕ)
+    → j ≡ judgement_of f → Answers v b (answered (Ok j))
+answers_found {v} {b} ok (finds_access n) h j e = subst (λ (x : rust.Option ℕ). Answers v b (answered (Ok x))) (sym e) (judges ok n)
+answers_found {v} {b} ok (finds_nothing n) h j e = subst (λ (x : rust.Option ℕ). Answers v b (answered (Ok x))) (sym e) (judges ok n)
 answers_found ok (finds_full k l) h j e = absurd (true≢false h)
 
 -- a table for as many places as the log has records, or as there are, suffices

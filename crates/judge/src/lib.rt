@@ -8,53 +8,35 @@ ghost use Rattle.format.specs.Version.{version_of};
 ghost use Rattle.log_conflicts.specs.Judge.{Answers, AnswersTold};
 ghost use Rattle.judge.specs.Answer.{answered};
 
-// What the judge answers to a log.
-#[derive(Clone, Copy)]
-pub enum Judgement {
-    // The log is refused: document 01's number of the refusal, and its place.
-    Refused { number: usize, place: usize },
-    // The record with this index, from 0, is an unordered access.
-    Unordered(usize),
-    // The log has no unordered access.
-    Ordered,
-}
+use refusals::{Reason, Refusal};
 
 // The answer to any version and any bytes: refusal 14, 11 or 12; else, by the chains of that version, the lowest index of a plain access with no chain from
-// an earlier one that it conflicts with, or none, `Ordered`, exactly when the log has no such access.
-pub fn judge(version: usize, log: &[u8]) -> Judgement
+// an earlier one that it conflicts with, or none exactly when the log has no such access.
+pub fn judge(version: usize, log: &[u8]) -> Result<Option<usize>, Refusal>
     ensures { AnswersTold version log.now (answered result) }
 {
     if version > 1 {
-        return Judgement::Refused {
-            number: 14,
-            place: 0,
-        };
+        return Err(Reason::Version.at(0));
     }
     judge_version(log, version)
 }
 
 // The same for a version that is not refused.
-fn judge_version(log: &[u8], version: usize) -> Judgement
+fn judge_version(log: &[u8], version: usize) -> Result<Option<usize>, Refusal>
     ensures { Answers (version_of version) log.now (answered result) }
 {
     if log_refusals::wrong_length(log) {
-        return Judgement::Refused {
-            number: 11,
-            place: 0,
-        };
+        return Err(Reason::LogLength.at(0));
     }
     let wrong = log_refusals::lowest_wrong(log);
     if wrong < log.len() / 3 {
-        return Judgement::Refused {
-            number: 12,
-            place: wrong,
-        };
+        return Err(Reason::Record.at(wrong));
     }
     if log.len() / 3 <= 64 {
-        return pass::short(log, version);
+        return Ok(pass::short(log, version));
     }
     if log.len() / 3 <= 128 {
-        return pass::middle(log, version);
+        return Ok(pass::middle(log, version));
     }
-    pass::long(log, version)
+    Ok(pass::long(log, version))
 }

@@ -13,8 +13,10 @@ use Rattle.format.proofs.RefusalLaws.{refusal_append}
 use Rattle.plan_packed.specs.Trees.{program_of}
 use Rattle.plan_packed.specs.Check.{checks, refusal}
 use Rattle.plan_refusals.specs.Answer as check
-use Rattle.plan_refusals.specs.declared.Checked.{Checked}
-use Rattle.plan_refusals.specs.declared.Checked.TheVariants as checked
+use Rattle.std.specs.Prelude.{Ok, Err}
+use Rattle.refusals.specs.declared.Refusal as code
+use Rattle.refusals.specs.Numbers.{refusal_of}
+use Rattle.plan_refusals.proofs.Stages.{Checked}
 use Rattle.rules.specs.Play.{schedule_checks, schedule_refusal}
 use Rattle.answers.specs.Answer as answer
 use Rattle.listing.specs.Listed.{Listed, Following, Over}
@@ -43,11 +45,11 @@ pub then_other : (x y : Option Refusal) → x ≡ none → or_else x y ≡ y
 unfolding or_else
 then_other x y e = rw e
 
-pub refused_is : (x : Option Refusal) (r : Checked) (k i : ℕ) → check.answered r ≡ x → r ≡ checked.Refused k i → x ≡ some (record { number = k; place = i })
+pub refused_is : (x : Option Refusal) (r : Checked) (c : code.Refusal) → check.answered r ≡ x → r ≡ Err c → x ≡ some (refusal_of c)
 unfolding check.answered
-refused_is x r k i h e = sym h ∙ ap check.answered e
+refused_is x r c h e = sym h ∙ ap check.answered e
 
-pub passed_is : (x : Option Refusal) (r : Checked) → check.answered r ≡ x → r ≡ checked.Passed → x ≡ none
+pub passed_is : (x : Option Refusal) (r : Checked) → check.answered r ≡ x → r ≡ Ok tt → x ≡ none
 unfolding check.answered
 passed_is x r h e = sym h ∙ ap check.answered e
 
@@ -59,10 +61,10 @@ module _ (plan : List ℕ) (n : ℕ) (area : List ℕ) where
   first_stages = refusal_append (checks plan) (check_whole 18 (over_bound n) ∷ check_whole 20 (short_output n area) ∷ [])
 
   module _ (r : Checked) (h : check.answered r ≡ refusal plan) where
-    pub first_refused_lem : (k i : ℕ) → r ≡ checked.Refused k i → FirstAnswer plan n area (answer.refused (record { number = k; place = i })) area
-    first_refused_lem k i e = FirstAnswer.REFUSED (first_stages ∙ first_or _ _ _ (refused_is _ r k i h e))
+    pub first_refused_lem : (c : code.Refusal) → r ≡ Err c → FirstAnswer plan n area (answer.refused (refusal_of c)) area
+    first_refused_lem c e = FirstAnswer.REFUSED (first_stages ∙ first_or _ _ _ (refused_is _ r c h e))
 
-    module _ (e : r ≡ checked.Passed) where
+    module _ (e : r ≡ Ok tt) where
       later : first_refused plan n area ≡ first_refusal (check_whole 18 (over_bound n) ∷ check_whole 20 (short_output n area) ∷ [])
       later = first_stages ∙ then_other _ _ (passed_is _ r h e)
 
@@ -90,10 +92,10 @@ module _ (plan : List ℕ) (n : ℕ) (schedule area : List ℕ) where
   next_stages = refusal_append (schedule_checks plan schedule) (check_whole 18 (over_bound n) ∷ [])
 
   module _ (r : Checked) (h : check.answered r ≡ schedule_refusal plan schedule) where
-    pub next_refused_lem : (k i : ℕ) → r ≡ checked.Refused k i → NextAnswer plan n schedule area (papers.Next.refused (record { number = k; place = i })) area
-    next_refused_lem k i e = NextAnswer.REFUSED (next_stages ∙ first_or _ _ _ (refused_is _ r k i h e))
+    pub next_refused_lem : (c : code.Refusal) → r ≡ Err c → NextAnswer plan n schedule area (papers.Next.refused (refusal_of c)) area
+    next_refused_lem c e = NextAnswer.REFUSED (next_stages ∙ first_or _ _ _ (refused_is _ r c h e))
 
-    module _ (e : r ≡ checked.Passed) where
+    module _ (e : r ≡ Ok tt) where
       pub next_over_bound : 64 < n → NextAnswer plan n schedule area (papers.Next.refused (numbered 18)) area
       unfolding over_bound
       next_over_bound b = NextAnswer.REFUSED (next_stages ∙ then_other _ _ (passed_is _ r h e) ∙ refuses 18 (over_bound n) [] (lt-ltb 64 n b))

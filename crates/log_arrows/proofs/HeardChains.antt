@@ -7,7 +7,7 @@ use mathlib.Core.Option.{Option, none, some}
 use lib.ListN.{length, get_elem?}
 use Rattle.format.specs.Version.{Version}
 use Rattle.log_records.specs.Record.{Record}
-use Rattle.log_order.specs.Chains.{At, Chain}
+use Rattle.log_order.specs.Chains.{At}
 use Rattle.log_order.proofs.Newest as N
 use Rattle.log_order.proofs.Flow.{chain→drawn, drawn→chain}
 use Rattle.log_order.proofs.Past.{past, past_length, at_within}

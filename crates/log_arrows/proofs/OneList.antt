@@ -1,12 +1,12 @@
 -- A log has one list of needed arrows. Assumes nothing.
-use Prim.Native.Nat.{ℕ, ◌<◌}
+use Prim.Native.Nat.{ℕ}
 use native.Mathlib.Omega.{arith}
 use mathlib.Core.Path.{◌≡◌, refl, sym, ap, ap₂, ◌∙◌, subst}
 use mathlib.Core.List.{List, [], ◌∷◌}
 use Rattle.format.specs.Version.{Version}
 use Rattle.log_records.specs.Record.{Record}
 use Rattle.log_order.specs.Chains.{At}
-use Rattle.log_arrows.specs.Arrows.{Among, here, further, Before, by_record, by_thread, Ordered, none, next, AllArrows}
+use Rattle.log_arrows.specs.Arrows.{Among, here, further, Before, by_record, by_thread, Ordered, next, AllArrows}
 use Rattle.log_arrows.proofs.Chains.{at_once}
 use Rattle.log_arrows.proofs.ArrowLists.{among_some}
 

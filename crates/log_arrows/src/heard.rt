@@ -74,11 +74,9 @@ pub fn rows(version: usize, log: &[u8], heard: &mut [Row])
     requires sized { length log.now / 3 ≤ length heard.old }
     ensures { HeardRows (version_of version) (log_of log.now) (length log.now / 3) heard.new }
 {
-    let count = log.len() / 3;
     let none = [0u16; 8];
     let mut links = [none; 1088];
-    let mut index = 0;
-    while index < count {
+    for index in 0..log.len() / 3 {
         let columns = log_packing::columns_at(log, index);
         let thread = columns.thread;
         let from = source(version, columns);
@@ -93,6 +91,5 @@ pub fn rows(version: usize, log: &[u8], heard: &mut [Row])
         links[thread] = moved;
         links[to] = told;
         heard[index] = known;
-        index += 1;
     }
 }

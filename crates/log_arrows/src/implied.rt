@@ -30,10 +30,8 @@ fn by_one(rows: &[Row], index: usize, thread: usize) -> bool
     ensures { result ≡ implied (heard_in rows.now) index thread 8 }
 {
     let mut found = false;
-    let mut other = 0;
-    while other < 8 {
-        found = found | by(rows, index, thread, other);
-        other += 1;
+    for other in 0..8 {
+        found |= by(rows, index, thread, other);
     }
     found
 }

@@ -22,14 +22,12 @@ fn to_one(
 {
     let row = rows[index];
     let mut held = count;
-    let mut thread = 0;
-    while thread < 8 {
+    for thread in 0..8 {
         if crate::implied::needed(rows, index, own, thread) {
             from[held] = row[thread] - 1;
             to[held] = index as u16;
             held += 1;
         }
-        thread += 1;
     }
     held
 }
@@ -44,11 +42,9 @@ pub fn all(log: &[u8], rows: &[Row], from: &mut [u16], to: &mut [u16]) -> usize
         ≡ arrows_below (heard_in rows.now) (thread_at log.now) (length log.now / 3) }
 {
     let mut held = 0;
-    let mut index = 0;
-    while index < log.len() / 3 {
+    for index in 0..log.len() / 3 {
         let columns = log_packing::columns_at(log, index);
         held = to_one(rows, index, columns.thread, from, to, held);
-        index += 1;
     }
     held
 }

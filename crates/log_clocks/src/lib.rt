@@ -45,10 +45,8 @@ pub fn raised(row: Row, told: Row) -> Row
     ensures { Raised row told result }
 {
     let mut clocks = [0u16; 8];
-    let mut thread = 0;
-    while thread < 8 {
+    for thread in 0..8 {
         clocks[thread] = higher(row[thread], told[thread]);
-        thread += 1;
     }
     clocks
 }
@@ -61,11 +59,9 @@ pub fn raised_to(row: Row, told: Row, most: u16) -> Row
     ensures { RaisedTo most row told result }
 {
     let mut clocks = [0u16; 8];
-    let mut thread = 0;
-    while thread < 8 {
+    for thread in 0..8 {
         let known = lesser(told[thread], most);
         clocks[thread] = greater(row[thread], known);
-        thread += 1;
     }
     clocks
 }
@@ -77,11 +73,8 @@ pub fn lower(own: Row, heard: Row) -> bool
     ensures { result ≡ lower_of 8 own heard }
 {
     let mut found = false;
-    let mut thread = 0;
-    while thread < 8 {
-        let late = less(own[thread], heard[thread]);
-        found = found | late;
-        thread += 1;
+    for thread in 0..8 {
+        found |= less(own[thread], heard[thread]);
     }
     found
 }

@@ -4,14 +4,14 @@ use native.Mathlib.Omega.{arith}
 use mathlib.Core.Path.{◌≡◌, subst}
 use mathlib.Core.Bool.{Bool, false}
 use mathlib.Core.List.{List}
+use Rattle.std.proofs.Common.{Ok}
 use lib.ListN.{get_or}
 use Rattle.log_records.specs.Packed.{kind_at}
 use Rattle.log_clocks.specs.Inner.Rows.{Row}
 use Rattle.log_places.specs.Inner.Places.{thread_at, place_at, Numbered, known, next, full}
 use Rattle.log_rows.specs.Inner.Rows.{place_row, is_access, passes}
 use Rattle.log_row_stores.specs.Inner.Table.{Told}
-use Rattle.log_effects.specs.Inner.Step.{field_at, PlacedStep, OtherStep, forks, joins, taking_of, Stepped, placed, unplaced}
-use Rattle.log_effects.specs.declared.Taking.TheVariants.{Taken}
+use Rattle.log_effects.specs.Inner.Step.{field_at, PlacedStep, OtherStep, forks, joins, Stepped, placed, unplaced}
 
 -- a place's number is one of those that there are
 pub number_most : {N : List ℕ} {given p : ℕ} {N' : List ℕ} {given' most n : ℕ} → Numbered N given p most N' given' n → ((q : ℕ) → get_or N q 0 ≤ most) → n ≤ most
@@ -33,7 +33,7 @@ module _ {b : List ℕ} {i read write most : ℕ} {N : List ℕ} {given : ℕ} {
     (thread_is : t ≡ thread_at b i) where
   -- at a place
   pub placed_by : {N' : List ℕ} {given' n at : ℕ} {after : List Row} {c d : Bool} → Numbered N given (place_at b i) most N' given' n → (n ≡ 0 → ⊥)
-      → at ≡ place_row n → c ≡ d → PlacedStep read write k t at (i + 1) rows after c → Stepped b i read write most N given rows N' given' after (taking_of d)
+      → at ≡ place_row n → c ≡ d → PlacedStep read write k t at (i + 1) rows after c → Stepped b i read write most N given rows N' given' after (Ok d)
   placed_by {n = n} {at = at} {after = after} {c = c} {d = d} P m at_is e S =
       placed P m
       (subst (λ (x : ℕ). PlacedStep read write x (thread_at b i) (place_row n) (i + 1) rows after d) kind_is
@@ -43,7 +43,7 @@ module _ {b : List ℕ} {i read write most : ℕ} {N : List ℕ} {given : ℕ} {
 
   -- at no place
   pub unplaced_by : {after : List Row} → is_access k ≡ false → passes 6 read k ≡ false → passes 7 write k ≡ false
-      → OtherStep k t (field_at b i) (i + 1) rows after → Stepped b i read write most N given rows N given after Taken
+      → OtherStep k t (field_at b i) (i + 1) rows after → Stepped b i read write most N given rows N given after (Ok false)
   unplaced_by {after = after} a h g S =
       unplaced (subst (λ (x : ℕ). is_access x ≡ false) kind_is a) (subst (λ (x : ℕ). passes 6 read x ≡ false) kind_is h)
       (subst (λ (x : ℕ). passes 7 write x ≡ false) kind_is g)

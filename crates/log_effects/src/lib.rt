@@ -9,16 +9,9 @@ use log_clocks::Row;
 use log_places::{places, records};
 use log_records::kind;
 
-// What comes of a record.
+// A record is at a place that no number is left for: the log is at more places than the table has rows for.
 #[derive(Clone, Copy)]
-pub enum Taking {
-    // The table has taken it in.
-    Taken,
-    // It is an unordered access.
-    Unordered,
-    // It is at a place that no number is left for.
-    NoneLeft,
-}
+pub struct NoneLeft;
 
 // The number of the place of the record at an index, or 0 where none is left.
 fn number_at(log: &[u8], index: usize, most: u16, numbers: &mut [u8], given: &mut u16) -> u16
@@ -46,7 +39,7 @@ fn elsewhere(log: &[u8], index: usize, kind: usize, thread: usize, time: u16, ta
     }
 }
 
-// The record at an index. `read` and `write` are the kinds of volatile accesses that order something; `most` is how many places the table has rows for.
+// The record at an index: whether it is an unordered access; if it is not, the table has taken it in. `read` and `write` are the kinds of volatile accesses that order something; `most` is how many places the table has rows for.
 pub fn step(
     log: &[u8],
     index: usize,
@@ -56,7 +49,7 @@ pub fn step(
     numbers: &mut [u8],
     given: &mut u16,
     table: &mut [Row],
-) -> Taking
+) -> Result<bool, NoneLeft>
     requires { Ready log.now index most numbers.old table.old }
     ensures { Stepped log.now index read write most (numbers_of most numbers.old) (given_of most given.old)
         table.old (numbers_of most numbers.new) (given_of most given.new) table.new result }
@@ -67,32 +60,30 @@ pub fn step(
     if log_rows::access(kind) {
         let number = number_at(log, index, most, numbers, given);
         if number == 0 {
-            return Taking::NoneLeft;
+            return Err(NoneLeft);
         }
         let at = log_rows::first(number);
-        if log_row_stores::access(table, kind, thread, at, time) {
-            return Taking::Unordered;
-        }
-        return Taking::Taken;
+        let unordered = log_row_stores::access(table, kind, thread, at, time);
+        return Ok(unordered);
     }
     if log_rows::hears(kind, read) {
         let number = number_at(log, index, most, numbers, given);
         if number == 0 {
-            return Taking::NoneLeft;
+            return Err(NoneLeft);
         }
         let at = log_rows::first(number);
         log_row_stores::hear(table, thread, at);
-        return Taking::Taken;
+        return Ok(false);
     }
     if log_rows::tells(kind, write) {
         let number = number_at(log, index, most, numbers, given);
         if number == 0 {
-            return Taking::NoneLeft;
+            return Err(NoneLeft);
         }
         let at = log_rows::first(number);
         log_row_stores::tell(table, at, thread, time);
-        return Taking::Taken;
+        return Ok(false);
     }
     elsewhere(log, index, kind, thread, time, table);
-    Taking::Taken
+    Ok(false)
 }

@@ -11,9 +11,7 @@ pub fn last_write(log: &[u8], failing: usize) -> usize
     ensures { IsLast log.now failing result }
 {
     let access = log_packing::columns_at(log, failing);
-    let mut index = failing;
-    while 0 < index {
-        index -= 1;
+    for index in (0..failing).rev() {
         let columns = log_packing::columns_at(log, index);
         if (columns.kind == kind::WRITE)
             & (columns.object == access.object)
@@ -22,5 +20,5 @@ pub fn last_write(log: &[u8], failing: usize) -> usize
             return index;
         }
     }
-    index
+    0
 }

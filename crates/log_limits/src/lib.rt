@@ -1,7 +1,7 @@
 // What each kind allows of its record's last 12 bits, which are field, value and spare: the tables by which refusal 12 is tested.
 #![tactic(auto)]
 
-ghost use Rattle.std.specs.Prelude.{◌≡◌, true, false};
+ghost use Rattle.std.specs.Prelude.{◌≡◌};
 ghost use Rattle.log_limits.specs.Inner.Limits.{least_bits, zero_bits};
 
 // For each kind, the least number that it allows in its record's last 12 bits, which are field, value and spare: an access has a field, at 128 and above.
@@ -21,18 +21,14 @@ const ZERO: [u16; 16] = [
     4095, 4095, 3, 3, 3, 3, 4095, 4095, 3199, 3075, 127, 3, 4095, 4095, 4095, 4095,
 ];
 
-// The least numbers before the last record.
-pub fn least_early() -> [u16; 16]
-    ensures { result ≡ least_bits false }
+// The least numbers in the last record, or before it.
+pub fn least(last: bool) -> [u16; 16]
+    ensures { result ≡ least_bits last }
 {
+    if last {
+        return LEAST_LAST;
+    }
     LEAST_EARLY
-}
-
-// The least numbers in the last record.
-pub fn least_last() -> [u16; 16]
-    ensures { result ≡ least_bits true }
-{
-    LEAST_LAST
 }
 
 // The bits that must be 0.

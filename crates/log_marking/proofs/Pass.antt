@@ -8,7 +8,7 @@ use mathlib.Core.Bool.{Bool, true, false, cond, ◌||◌}
 use mathlib.Core.List.{List, ◌∷◌, reverse}
 use mathlib.Core.Logic.{◌⊎◌, inl, inr, ◌↔◌}
 use lib.Dec.{T, eqb}
-use lib.ListN.{length, get_or, set, replicate, length-set, length-replicate, take}
+use lib.ListN.{length, get_or, set, replicate, length-set, length-replicate}
 use lib.Seq.{take_all, get_or-set_same, get_or-set_other}
 use borrow.Author.Tests.{eq-eqb, ne_eqb}
 use Rattle.format.specs.Version.{v1}
@@ -27,7 +27,7 @@ use Rattle.log_packing.proofs.Decoded.{kind_is_kind}
 use Rattle.side_by_side.proofs.Marks.{Wanted, draws, fed, wanted_after, marks_from, marks_of, targets, marked}
 use Rattle.log_marking.specs.Inner.Rows.{drawn_row, fed_row}
 use Rattle.log_marking.specs.Inner.Marked.{MarkedIn, SameBeyond}
-use Rattle.log_marking.proofs.PortRows.{Valid, row_of, row_below, row_once, drawn_by, drawn_port, fed_by, fed_port, drawn_valid, fed_valid, drawn_row_lem}
+use Rattle.log_marking.proofs.PortRows.{Valid, row_of, row_below, row_once, drawn_port, fed_port, drawn_valid, fed_valid, drawn_row_lem}
 use Rattle.log_marking.proofs.PortRows.{fed_row_lem}
 use Rattle.log_marking.proofs.PortTests.{fed_ports, draws_own, draws_drawn, draws_no}
 

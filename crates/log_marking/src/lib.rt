@@ -14,9 +14,7 @@ pub fn mark(log: &[u8], failing: usize, last: usize, kept: &mut [bool])
     ensures same_beyond { SameBeyond log.now kept.old kept.new }
 {
     let mut wanted = [false; 1088];
-    let mut left = log.len() / 3;
-    while 0 < left {
-        let index = left - 1;
+    for index in (0..log.len() / 3).rev() {
         let columns = log_packing::columns_at(log, index);
         let thread = columns.thread;
         let from = rows::drawn(columns);
@@ -28,6 +26,5 @@ pub fn mark(log: &[u8], failing: usize, last: usize, kept: &mut [bool])
         wanted[thread] = own | goes;
         let heard = wanted[from];
         wanted[from] = heard | goes;
-        left = index;
     }
 }

@@ -1,18 +1,12 @@
 // What a record draws from and feeds besides its own thread, as the index of a flag: thread q at q, the monitor of object o at 32 + o, the volatile field f
 // of object o at 64 + 32 o + f.
-ghost use Rattle.std.specs.Prelude.{◌≡◌, cond};
+ghost use Rattle.std.specs.Prelude.{◌≡◌};
 ghost use Rattle.log_packing.specs.Inner.Columns.{Narrow};
 ghost use Rattle.log_marking.specs.Inner.Rows.{drawn_row, fed_row};
 
 use log_packing::Columns;
 use log_records::kind;
-
-// Chooses without a branch, since a log's kinds follow no pattern.
-fn choose(test: bool, yes: usize, no: usize) -> usize
-    ensures { result ≡ cond test yes no }
-{
-    if test { yes } else { no }
-}
+use log_rows::choose;
 
 // An acquire draws from the monitor, a volatile read from the field, a join from the thread, any other from its own thread alone.
 pub fn drawn(columns: Columns) -> usize

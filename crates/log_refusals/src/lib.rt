@@ -44,7 +44,8 @@ fn four_wrong<'a>(log: &[u8], index: usize, least: &'a [u16; 16], zero: &'a [u16
     first | second | third | fourth
 }
 
-// A count of records from the first on that are all right: four are tested before a branch.
+// A count of records from the first on that are all right: four are tested before a branch. Counted by hand, since a range of fours takes longer on short
+// logs.
 fn right_fours<'a>(log: &[u8], least: &'a [u16; 16], zero: &'a [u16; 16]) -> usize
     requires least_value { least.now ≡ least_bits false }
     requires zero_value { zero.now ≡ zero_bits }
@@ -66,21 +67,20 @@ pub fn lowest_wrong(log: &[u8]) -> usize
     ensures { Lowest (wrong_record log.now) (record_count log.now) result }
 {
     let count = log.len() / 3;
-    let early = log_limits::least_early();
-    let last = log_limits::least_last();
+    let early = log_limits::least(false);
+    let last = log_limits::least(true);
     let zero = log_limits::zero_bits();
-    let mut index = right_fours(log, &early, &zero);
-    while index + 1 < count {
+    if count == 0 {
+        return 0;
+    }
+    let tested = right_fours(log, &early, &zero);
+    for index in tested..count - 1 {
         if wrong_record(log, index, &early, &zero) {
             return index;
         }
-        index += 1;
     }
-    if count <= index {
-        return index;
-    }
-    if wrong_record(log, index, &last, &zero) {
-        return index;
+    if wrong_record(log, count - 1, &last, &zero) {
+        return count - 1;
     }
     count
 }

@@ -13,10 +13,8 @@ pub fn start(table: &mut [Row])
     requires sound { Sound table.old }
     ensures { Started 8 table.old table.new }
 {
-    let mut thread = 0;
-    while thread < 8 {
+    for thread in 0..8 {
         table[thread][thread] = 32767;
-        thread += 1;
     }
 }
 

@@ -9,7 +9,7 @@ ghost use Rattle.log_rows.specs.Inner.Rows.{place_row, is_access, ordering_kind,
 use log_records::kind;
 
 // Chooses without a branch, since a log's kinds follow no pattern.
-fn choose(test: bool, yes: usize, no: usize) -> usize
+pub fn choose(test: bool, yes: usize, no: usize) -> usize
     ensures { result ≡ cond test yes no }
 {
     if test { yes } else { no }

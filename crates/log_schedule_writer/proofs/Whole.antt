@@ -1,24 +1,23 @@
 -- The parts of the writing put together: the search, the marks, the count and the pass write what the definition says. Assumes nothing.
-use Prim.Native.Nat.{ℕ, suc, ◌/◌, ◌<◌, ◌≤◌}
+use Prim.Native.Nat.{ℕ, suc, ◌/◌, ◌<◌}
 use native.Mathlib.Omega.{arith}
 use native.Mathlib.Decide.{dec_lt}
 use mathlib.Core.Path.{◌≡◌, refl, sym, ap, ◌∙◌, subst as along}
 use mathlib.Core.Bool.{Bool, false}
 use mathlib.Core.List.{List}
 use mathlib.Core.Logic.{◌⊎◌, inl, inr, ◌↔◌}
-use mathlib.Core.Option.{some, none, none-ne-some}
+use mathlib.Core.Option.{some, none-ne-some}
 use lib.Dec.{T}
-use lib.ListN.{length, get_elem?, get_or, replicate}
+use lib.ListN.{length, get_elem?, replicate}
 use Rattle.format.specs.Version.{v1}
 use Rattle.format.specs.Area.{overwrite}
 use Rattle.format.proofs.Filled.{repeated}
 use Rattle.log_records.specs.Record.{Record}
 use Rattle.log_records.specs.Packed.{record_at, record_count, log_of}
-use Rattle.log_records.proofs.RoundTrip.{count_log, length_log, log_element, log_past}
+use Rattle.log_records.proofs.RoundTrip.{length_log, log_element, log_past}
 use Rattle.log_order.specs.Chains as O
 use Rattle.log_order.specs.Chains.{At, Chain, one, more, LastWrite}
 use Rattle.answers.specs.Answer.{Answer}
-use Rattle.side_by_side.specs.Schedule.{picks_of}
 use Rattle.side_by_side.specs.SideBySide.{WrittenFrom}
 use Rattle.side_by_side.proofs.Written.{written_by}
 use Rattle.log_last_write.specs.Inner.LastWrite.{IsLast, HasLast}

@@ -8,8 +8,8 @@ ghost use Rattle.answers.specs.Answer.{answered};
 ghost use Rattle.log_schedule_writer.specs.Inner.Kept.{flagged, count_kept, Small, picks_in};
 ghost use Rattle.log_schedule_writer.specs.Inner.WritesFrom.{RacedIn, WritesFrom};
 
-use answers::Answered;
 use log_records::kind;
+use refusals::{Reason, Refusal};
 
 // How many of the first moves are kept.
 pub fn count(kept: &[bool], moves: usize) -> usize
@@ -17,12 +17,10 @@ pub fn count(kept: &[bool], moves: usize) -> usize
     ensures { (result ≡ count_kept (flagged kept.now) 0 moves) × (result ≤ moves) }
 {
     let mut total = 0;
-    let mut index = 0;
-    while index < moves {
+    for index in 0..moves {
         if kept[index] {
             total += 1;
         }
-        index += 1;
     }
     total
 }
@@ -39,8 +37,7 @@ pub fn put_picks(log: &[u8], kept: &[bool], area: &mut [u8])
     let mut numbers = [0usize; 32];
     let mut next: usize = 1;
     let mut at = 0;
-    let mut index = 0;
-    while index < log.len() / 3 {
+    for index in 0..log.len() / 3 {
         if kept[index] {
             let columns = log_packing::columns_at(log, index);
             let thread = columns.thread;
@@ -52,12 +49,11 @@ pub fn put_picks(log: &[u8], kept: &[bool], area: &mut [u8])
                 next += 1;
             }
         }
-        index += 1;
     }
 }
 
 // The schedule that is written from the moves of a run that raced, at the area's start, and its length; or refusal 17 where the area is shorter.
-pub fn write(log: &[u8], area: &mut [u8]) -> Answered
+pub fn write(log: &[u8], area: &mut [u8]) -> Result<usize, Refusal>
     requires { RacedIn log.now }
     ensures { WritesFrom log.now area.old (answered result) area.new }
 {
@@ -68,11 +64,8 @@ pub fn write(log: &[u8], area: &mut [u8]) -> Answered
     log_marking::mark(log, failing, last, &mut kept);
     let length = count(&kept, moves);
     if area.len() < length {
-        return Answered::Refused {
-            number: 17,
-            place: 0,
-        };
+        return Err(Reason::ScheduleArea.at(0));
     }
     put_picks(log, &kept, area);
-    Answered::Value(length)
+    Ok(length)
 }

@@ -1,6 +1,6 @@
 -- The answer to a plan, stage by stage: checks 1 to 3, check 4, checks 5 and 6, check 7. Assumes nothing.
 use Prim.Native.Nat.{ℕ, ◌<◌}
-use mathlib.Core.Path.{◌≡◌, sym, ap, ◌∙◌, subst}
+use mathlib.Core.Path.{◌≡◌, sym, ◌∙◌}
 use mathlib.Core.Bool.{false}
 use mathlib.Core.List.{List}
 use mathlib.Core.Option.{some, none}
@@ -10,11 +10,11 @@ use Rattle.format.proofs.RefusalLaws.{refusal_append, head_pass, tail_pass, none
 use Rattle.plan_packed.specs.Format.{terms}
 use Rattle.plan_packed.specs.Refusals.{wrong_term, not_named_once}
 use Rattle.plan_packed.specs.Check.{checks, refusal}
-use Rattle.plan_packed.specs.Inner.Steps.{Loaded}
 use Rattle.plan_refusals.specs.Answer.{answered}
-use Rattle.plan_refusals.proofs.Stages.{refused_first, passed_first, passed_none}
-use Rattle.plan_refusals.specs.declared.Checked.{Checked}
-use Rattle.plan_refusals.specs.declared.Checked.TheVariants.{Passed, Refused}
+use Rattle.plan_refusals.proofs.Stages.{Checked, refused_first, passed_first, passed_none, told}
+use Rattle.std.specs.Prelude.{Ok, Err}
+use Rattle.refusals.specs.declared.Refusal.{Refusal}
+use Rattle.refusals.specs.declared.Reason.TheVariants.{Term}
 
 module _ (b : List ℕ) where
   stages : refusal b ≡ or_else (first_refusal (take 3 (checks b))) (refuse 4 (lowest (wrong_term b) (terms b)) (first_refusal (drop 4 (checks b))))
@@ -22,18 +22,18 @@ module _ (b : List ℕ) where
   stages = refusal_append (take 3 (checks b)) (drop 3 (checks b))
 
   -- one of checks 1 to 3 refuses
-  pub by_header : (r : Checked) (k i : ℕ) → answered r ≡ first_refusal (take 3 (checks b)) → r ≡ Refused k i → answered r ≡ refusal b
-  by_header r k i e q = refused_first _ _ r k i e q ∙ sym stages
+  pub by_header : (r : Checked) (c : Refusal) → answered r ≡ first_refusal (take 3 (checks b)) → r ≡ Err c → answered r ≡ refusal b
+  by_header r c e q = refused_first _ _ r c e q ∙ sym stages
 
   -- none of them does
-  module _ (h : Checked) (e : answered h ≡ first_refusal (take 3 (checks b))) (q : h ≡ Passed) where
+  module _ (h : Checked) (e : answered h ≡ first_refusal (take 3 (checks b))) {u : Unit {0}} (q : h ≡ Ok u) where
     pub headed : first_refusal (take 3 (checks b)) ≡ none
     headed = passed_none _ h e q
 
     -- check 4 does
-    pub by_term : (i : ℕ) (r : Checked) → lowest (wrong_term b) (terms b) ≡ some i → r ≡ Refused 4 i → answered r ≡ refusal b
-    unfolding answered refuse
-    by_term i r l p = passed_first _ _ h r e q (ap answered p ∙ sym (rw l)) ∙ sym stages
+    pub by_term : (i : ℕ) (c : Refusal) → lowest (wrong_term b) (terms b) ≡ some i → c ≡ record { reason = Term; place = i } → answered (Err c) ≡ refusal b
+    unfolding refuse
+    by_term i c l p = passed_first _ _ h (Err c) e q (told p ∙ sym (rw l)) ∙ sym stages
 
     -- the others are left
     pub by_trees : (r : Checked) → lowest (wrong_term b) (terms b) ≡ none → answered r ≡ first_refusal (drop 4 (checks b)) → answered r ≡ refusal b
@@ -46,20 +46,16 @@ module _ (b : List ℕ) where
   names_first = refusal_append (take 2 (drop 4 (checks b))) (drop 6 (checks b))
 
   -- one of checks 5 and 6 refuses
-  pub by_names : (r : Checked) (k i : ℕ) → answered r ≡ first_refusal (take 2 (drop 4 (checks b))) → r ≡ Refused k i
+  pub by_names : (r : Checked) (c : Refusal) → answered r ≡ first_refusal (take 2 (drop 4 (checks b))) → r ≡ Err c
       → answered r ≡ first_refusal (drop 4 (checks b))
-  by_names r k i e q = refused_first _ _ r k i e q ∙ sym names_first
+  by_names r c e q = refused_first _ _ r c e q ∙ sym names_first
 
   -- neither does: every term is named once
-  pub named_once : (h : Checked) → answered h ≡ first_refusal (take 2 (drop 4 (checks b))) → h ≡ Passed → (t : ℕ) → t < terms b → not_named_once b t ≡ false
+  pub named_once : (h : Checked) {u : Unit {0}} → answered h ≡ first_refusal (take 2 (drop 4 (checks b))) → h ≡ Ok u → (t : ℕ) → t < terms b → not_named_once b t ≡ false
   unfolding checks
   named_once h e q t l = (head_pass (tail_pass ((none_is_pass (take 2 (drop 4 (checks b)))).0 (passed_none _ h e q)))).right t l
 
   -- check 7 is left
-  pub by_slots : (h r : Checked) → answered h ≡ first_refusal (take 2 (drop 4 (checks b))) → h ≡ Passed → answered r ≡ first_refusal (drop 6 (checks b))
+  pub by_slots : (h r : Checked) {u : Unit {0}} → answered h ≡ first_refusal (take 2 (drop 4 (checks b))) → h ≡ Ok u → answered r ≡ first_refusal (drop 6 (checks b))
       → answered r ≡ first_refusal (drop 4 (checks b))
   by_slots h r e q p = passed_first _ _ h r e q p ∙ sym names_first
-
--- the count of terms by another name
-pub loaded_as : {b words : List ℕ} {n m : ℕ} → n ≡ m → Loaded b n words → Loaded b m words
-loaded_as {b} {words} e l = subst (λ (k : ℕ). Loaded b k words) e l

@@ -1,7 +1,7 @@
 // The packed plan: is it one that can be played, and if not, what is wrong with it, and where (document 01, refusals 1 to 7).
 #![tactic(auto)]
 
-ghost use Rattle.std.specs.Prelude.{◌≡◌, take, drop, replicate};
+ghost use Rattle.std.specs.Prelude.{◌≡◌, take, drop, replicate, OnOk};
 ghost use Rattle.format.specs.Refusal.{first_refusal};
 ghost use Rattle.plan_packed.specs.Check.{checks, refusal};
 ghost use Rattle.plan_packed.specs.Format.{terms};
@@ -14,26 +14,26 @@ use plan_header::layout;
 use plan_naming::notes;
 use plan_operands::rows;
 use plan_operands::rows::Rows;
-use plan_refusals::{Checked, refused};
 use plan_terms::table;
+use refusals::{Reason, Refusal};
 
 // Refusals 1 to 3: the length, the header and the mask, the procedures.
-fn check_header(plan: &[u8]) -> Checked
+fn check_header(plan: &[u8]) -> Result<(), Refusal>
     ensures { answered result ≡ first_refusal (take 3 (checks plan.now)) }
 {
     if plan_header::wrong_length(plan) {
-        return refused(1, 0);
+        return Err(Reason::PlanLength.at(0));
     }
     if plan_header::wrong_header(plan) {
-        return refused(2, 0);
+        return Err(Reason::Header.at(0));
     }
     let procedures = layout::procedures(plan);
     let count = layout::terms(plan);
     let procedure = plan_header::lowest_wrong_procedure(plan, procedures, count);
     if procedure < procedures {
-        return refused(3, procedure);
+        return Err(Reason::Procedure.at(procedure));
     }
-    Checked::Passed
+    Ok(())
 }
 
 // Refusals 5 and 6, of a plan whose terms are right, in `words` and noted in `notes`. Where the notes do not show that it passes, the lowest places are
@@ -45,7 +45,7 @@ fn check_names(
     count: usize,
     words: &[usize; 1024],
     notes: &[u8; 1024],
-) -> Checked
+) -> Result<(), Refusal>
     requires right { Right plan.now procedures count }
     requires loaded { Loaded plan.now count words.now }
     requires rows_value { rows.now ≡ layout_rows }
@@ -53,18 +53,18 @@ fn check_names(
     ensures { answered result ≡ first_refusal (take 2 (drop 4 (checks plan.now))) }
 {
     if notes::all_fit(rows, plan, procedures, count, words, notes) {
-        return Checked::Passed;
+        return Ok(());
     }
     let mut times = [0u8; 1024];
     let misplaced = plan_naming::name_all(rows, plan, procedures, count, words, &mut times);
     let miscounted = plan_naming::lowest_miscounted(&times, count);
     if misplaced < count {
-        return refused(5, misplaced);
+        return Err(Reason::Sort.at(misplaced));
     }
     if miscounted < count {
-        return refused(6, miscounted);
+        return Err(Reason::Naming.at(miscounted));
     }
-    Checked::Passed
+    Ok(())
 }
 
 // Refusals 5 to 7, of such a plan. Where the scopes do not show that it passes check 7, the trees are walked.
@@ -76,7 +76,7 @@ fn check_trees(
     words: &[usize; 1024],
     notes: &[u8; 1024],
     scopes: &[u8; 1024],
-) -> Checked
+) -> Result<(), Refusal>
     requires right { Right plan.now procedures count }
     requires loaded { Loaded plan.now count words.now }
     requires rows_value { rows.now ≡ layout_rows }
@@ -84,31 +84,25 @@ fn check_trees(
     requires terms_scoped { TermsScoped plan.now count scopes.now }
     ensures { answered result ≡ first_refusal (drop 4 (checks plan.now)) }
 {
-    let checked = check_names(rows, plan, procedures, count, words, notes);
-    let Checked::Passed = checked else {
-        return checked;
-    };
+    check_names(rows, plan, procedures, count, words, notes)?;
     if plan_scopes::all_bound(plan, procedures, count, words, scopes) {
-        return Checked::Passed;
+        return Ok(());
     }
     let open = plan_bound_slots::lowest_open(plan, procedures, count, words);
     if open < procedures {
-        return refused(7, open);
+        return Err(Reason::Slot.at(open));
     }
-    Checked::Passed
+    Ok(())
 }
 
 // The checks run in the order of their numbers; the answer is the first that finds a fault, at its lowest place. Where none does, every term's 40 bits
 // are then in `words`, which came as zeros. The rows of the operand layouts are laid out here, once a check, and lent.
-pub fn load(plan: &[u8], words: &mut [usize; 1024]) -> Checked
+pub fn load(plan: &[u8], words: &mut [usize; 1024]) -> Result<(), Refusal>
     requires { words.old ≡ replicate 1024 0 }
     ensures result_value { answered result ≡ refusal plan.now }
-    ensures loaded { result ≡ Checked.Passed → Loaded plan.now (terms plan.now) words.new }
+    ensures loaded { OnOk result (Loaded plan.now (terms plan.now) words.new) }
 {
-    let checked = check_header(plan);
-    let Checked::Passed = checked else {
-        return checked;
-    };
+    check_header(plan)?;
     let procedures = layout::procedures(plan);
     let count = layout::terms(plan);
     let rows = rows::layouts();
@@ -126,13 +120,13 @@ pub fn load(plan: &[u8], words: &mut [usize; 1024]) -> Checked
         &mut scopes,
     );
     if term < count {
-        return refused(4, term);
+        return Err(Reason::Term.at(term));
     }
     check_trees(&rows, plan, procedures, count, words, &notes, &scopes)
 }
 
 // The entry `check`.
-pub fn check(plan: &[u8]) -> Checked
+pub fn check(plan: &[u8]) -> Result<(), Refusal>
     ensures { answered result ≡ refusal plan.now }
 {
     let mut words = [0usize; 1024];

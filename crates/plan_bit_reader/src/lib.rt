@@ -17,10 +17,8 @@ fn bytes_at(plan: &[u8], start: usize, count: usize) -> usize
     ensures { result ≡ bits_at plan.now (start * 8) (count * 8) }
 {
     let mut value: usize = 0;
-    let mut index = 0;
-    while index < count {
-        value = value * 256 + plan[start + index] as usize;
-        index += 1;
+    for byte in &plan[start..start + count] {
+        value = value * 256 + *byte as usize;
     }
     value
 }
@@ -37,19 +35,21 @@ pub fn bits_at(plan: &[u8], at: usize, width: usize) -> usize
     (value >> after) % (1usize << width)
 }
 
-// A reader of the plan that stands at bit `at`.
-pub fn at_bit<'a>(plan: &'a [u8], at: usize) -> Reader<'a>
-    ensures { (result.plan ≡ plan.entry) × (result.at ≡ at) }
-{
-    Reader { plan, at }
-}
+impl<'a> Reader<'a> {
+    // A reader of the plan that stands at bit `at`.
+    pub fn at_bit(plan: &'a [u8], at: usize) -> Reader<'a>
+        ensures { (result.plan ≡ plan.entry) × (result.at ≡ at) }
+    {
+        Reader { plan, at }
+    }
 
-// The `width` bits where the reader stands.
-pub fn take<'a>(reader: Reader<'a>, width: usize) -> usize
-    requires { (reader.at + width ≤ 8 * length reader.plan.now) × (width ≤ 40) }
-    ensures { result ≡ bits_at reader.entry.plan.now reader.entry.at width }
-{
-    bits_at(reader.plan, reader.at, width)
+    // The `width` bits where the reader stands.
+    pub fn take(self, width: usize) -> usize
+        requires { (self.at + width ≤ 8 * length self.plan.now) × (width ≤ 40) }
+        ensures { result ≡ bits_at self.entry.plan.now self.entry.at width }
+    {
+        bits_at(self.plan, self.at, width)
+    }
 }
 
 // The `width` bits from bit `at` of the plan on.
@@ -57,5 +57,5 @@ pub fn field(plan: &[u8], at: usize, width: usize) -> usize
     requires { (at + width ≤ 8 * length plan.now) × (width ≤ 40) }
     ensures { result ≡ bits_at plan.now at width }
 {
-    take(at_bit(plan, at), width)
+    Reader::at_bit(plan, at).take(width)
 }

@@ -11,13 +11,9 @@ use Rattle.plan_packed.specs.Inner.Operands.{tag_of}
 use Rattle.plan_packed.specs.Trees.{nodes, node_of, condition_of}
 use Rattle.plan_packed.specs.Slots.{closed, closedᶜ}
 use Rattle.plan_packed.specs.Inner.Steps.{slots, in_word, tree_in, condition_in, list_in}
-use Rattle.plan_bound_slots.specs.Inner.Left.{seen, After}
-use Rattle.plan_bound_slots.specs.declared.Rest.{Rest}
-use Rattle.plan_bound_slots.specs.declared.Rest.TheVariants.{At}
+use Rattle.std.specs.declared.ops.ControlFlow.TheVariants.{Continue}
+use Rattle.plan_bound_slots.specs.Inner.Left.{Rest, seen, After}
 use Rattle.plan_packed.proofs.Walk.{cond_is, row_below, cond_rest}
-use Rattle.plan_bound_slots.specs.Inner.Left.{seen, After}
-use Rattle.plan_bound_slots.specs.declared.Rest.{Rest}
-use Rattle.plan_bound_slots.specs.declared.Rest.TheVariants.{At}
 use Rattle.plan_packed.proofs.WalkSteps.{and_true, and_false, and_swap, mod_below, beyond}
 use Rattle.plan_bound_slots.proofs.TermParts.{Tagged, first_of, second_of, Call}
 use Rattle.plan_bound_slots.proofs.Expressions.{Two, CallTwo}
@@ -80,7 +76,7 @@ module _ (words : List ℕ) (m : ℕ) {from t : ℕ} (l : Left words (conditions
     pub equal_told : (q : Rest) → r ≡ q → seen words q ≡ conditions_of words (slots m) from
     equal_told q k = sym (ap (seen words) k) ∙ b.0 ∙ sym equal_is ∙ l.same
 
-    pub equal_next : (span x n : ℕ) → 3 * (1024 - from) + 1 ≡ span → r ≡ At x n → Call words span x
+    pub equal_next : (span x n : ℕ) → 3 * (1024 - from) + 1 ≡ span → r ≡ Continue (x, n) → Call words span x
     equal_next span x n h k =
-        let q : After t (At x n) = subst (After t) k (b.1 t equal_below.0 equal_below.1) in
+        let q : After t (Continue (x, n)) = subst (After t) k (b.1 t equal_below.0 equal_below.1) in
         (beyond span from t x h l.after q.0 q.1, (l.ordered, q.1))

@@ -13,10 +13,8 @@ use Rattle.plan_packed.specs.Inner.Steps.{Ordered, bit_of, with_slot, slots, in_
 use Rattle.plan_packed.proofs.Walk.{expr_is, row_below, expr_rest}
 use Rattle.plan_packed.proofs.SlotMasks.{bound_is}
 use Rattle.plan_packed.proofs.WalkSteps.{and_true, and_false, and_swap, and_no, and_three, and_none, mod_below, apart, inside}
-use Rattle.plan_bound_slots.specs.Inner.Left.{told, seen, After}
-use Rattle.plan_bound_slots.specs.declared.Rest.{Rest}
-use Rattle.plan_bound_slots.specs.declared.Rest.TheVariants.{Closed, Open, At}
-use Rattle.plan_bound_slots.proofs.LeftLaws.{seen_told, after_told}
+use Rattle.std.specs.declared.ops.ControlFlow.TheVariants.{Continue, Break}
+use Rattle.plan_bound_slots.specs.Inner.Left.{Rest, seen, After}
 use Rattle.plan_bound_slots.proofs.TermParts.{Tagged, first_of, second_of, Call, leaf_seen}
 
 -- what is left of two operands
@@ -51,19 +49,19 @@ arguments_from words t = word.list_bits (get_or words t 0)
 
 module _ (words : List ℕ) (o : Ordered words) (x outer y inner : ℕ) where
   module _ (h : word.tag_of (get_or words y 0) < 3) {r : Bool} (e : r ≡ closed (slots inner) (leaf_in (get_or words y 0))) where
-    pub leaf_closed : x < 1024 → r ≡ true → Two words x outer y inner (At x outer)
+    pub leaf_closed : x < 1024 → r ≡ true → Two words x outer y inner (Continue (x, outer))
     unfolding seen
     leaf_closed b k = (sym (and_swap _ _ (leaf_seen words o (slots inner) y h e ∙ k)), λ i p q. (p, b))
 
-    pub leaf_open : r ≡ false → Two words x outer y inner Open
+    pub leaf_open : r ≡ false → Two words x outer y inner (Break false)
     unfolding seen
     leaf_open k = (sym (and_no (closed (slots outer) (tree_in words x)) _ (leaf_seen words o (slots inner) y h e ∙ k)), λ i p q. tt)
 
-  pub first_closed : y < 1024 → closed (slots outer) (tree_in words x) ≡ true → Two words x outer y inner (At y inner)
+  pub first_closed : y < 1024 → closed (slots outer) (tree_in words x) ≡ true → Two words x outer y inner (Continue (y, inner))
   unfolding seen
   first_closed b k = (sym (and_true _ _ k), λ i p q. (q, b))
 
-  pub first_open : closed (slots outer) (tree_in words x) ≡ false → Two words x outer y inner Open
+  pub first_open : closed (slots outer) (tree_in words x) ≡ false → Two words x outer y inner (Break false)
   unfolding seen
   first_open k = (sym (and_false _ _ k), λ i p q. tt)
 
@@ -110,18 +108,19 @@ module _ (words : List ℕ) (o : Ordered words) (t m : ℕ) where
   abbrev pub Answer : Rest → Type 0
   Answer r = (seen words r ≡ closed (slots m) (tree_in words t)) × After t r
 
-  all : {r : Rest} {x : Bool} → r ≡ told x → x ≡ closed (slots m) (tree_in words t) → Answer r
-  all e h = rw e (seen_told words _ ∙ h, after_told t _)
+  all : {x : Bool} → x ≡ closed (slots m) (tree_in words t) → Answer (Break x)
+  unfolding seen
+  all h = (h, tt)
 
   rest_of : (r : Rest) (x outer y inner : ℕ) → Two words x outer y inner r → t < x → t < y
       → (closed (slots outer) (tree_in words x) && closed (slots inner) (tree_in words y)) ≡ closed (slots m) (tree_in words t) → Answer r
   rest_of r x outer y inner b h k e = (b.0 ∙ e, b.1 t h k)
 
-  pub variable_left : {r : Rest} {x : Bool} → Tagged words t 1 → r ≡ told x → x ≡ bit_of m (slot_of words t) → Answer r
+  pub variable_left : {x : Bool} → Tagged words t 1 → x ≡ bit_of m (slot_of words t) → Answer (Break x)
   unfolding node_of in_word layout table nodes expression_of closed slots
-  variable_left e h k = all h (k ∙ sym (ap (closed (slots m)) (expr_is words o t 1 e)))
+  variable_left e k = all (k ∙ sym (ap (closed (slots m)) (expr_is words o t 1 e)))
 
-  pub read_left : Tagged words t 3 → Answer (At (first_of words t) m)
+  pub read_left : Tagged words t 3 → Answer (Continue (first_of words t, m))
   unfolding seen node_of in_word layout table nodes expression_of closed
   read_left e = (sym (ap (closed (slots m)) (expr_is words o t 3 e)), (row_below words o t 3 e, mod_below _))
 
@@ -144,39 +143,39 @@ module _ (words : List ℕ) (o : Ordered words) (t m : ℕ) where
       let k = row_below words o t 6 e in
       rest_of r _ _ _ _ b k.1 k.2 (and_three _ _ _ h ∙ sym (ap (closed (slots m)) (expr_is words o t 6 e)))
 
-  pub if_open : Tagged words t 6 → closedᶜ (slots m) (condition_in words (first_of words t)) ≡ false → Answer Open
+  pub if_open : Tagged words t 6 → closedᶜ (slots m) (condition_in words (first_of words t)) ≡ false → Answer (Break false)
   unfolding seen node_of in_word layout table nodes expression_of closed
   if_open e h = (and_none _ _ _ h ∙ sym (ap (closed (slots m)) (expr_is words o t 6 e)), tt)
 
-  pub while_left : Tagged words t 7 → closedᶜ (slots m) (condition_in words (first_of words t)) ≡ true → Answer (At (second_of words t) m)
+  pub while_left : Tagged words t 7 → closedᶜ (slots m) (condition_in words (first_of words t)) ≡ true → Answer (Continue (second_of words t, m))
   unfolding seen node_of in_word layout table nodes expression_of closed
   while_left e h = (sym (ap (closed (slots m)) (expr_is words o t 7 e) ∙ and_true _ _ h), ((row_below words o t 7 e).1, mod_below _))
 
-  pub while_open : Tagged words t 7 → closedᶜ (slots m) (condition_in words (first_of words t)) ≡ false → Answer Open
+  pub while_open : Tagged words t 7 → closedᶜ (slots m) (condition_in words (first_of words t)) ≡ false → Answer (Break false)
   unfolding seen node_of in_word layout table nodes expression_of closed
   while_open e h = (sym (ap (closed (slots m)) (expr_is words o t 7 e) ∙ and_false _ _ h), tt)
 
-  pub call_left : {r : Rest} {x : Bool} → Tagged words t 8 → r ≡ told x → x ≡ closedᵃ (slots m) (list_in words (arguments_from words t)) → Answer r
+  pub call_left : {x : Bool} → Tagged words t 8 → x ≡ closedᵃ (slots m) (list_in words (arguments_from words t)) → Answer (Break x)
   unfolding node_of in_word layout table nodes expression_of closed
-  call_left e h k = all h (k ∙ sym (ap (closed (slots m)) (expr_is words o t 8 e)))
+  call_left e k = all (k ∙ sym (ap (closed (slots m)) (expr_is words o t 8 e)))
 
-  pub fork_left : Tagged words t 9 → Answer (At (first_of words t) m)
+  pub fork_left : Tagged words t 9 → Answer (Continue (first_of words t, m))
   unfolding seen node_of in_word layout table nodes expression_of closed
   fork_left e = (sym (ap (closed (slots m)) (expr_is words o t 9 e)), (row_below words o t 9 e, mod_below _))
 
-  pub join_left : Tagged words t 10 → Answer (At (first_of words t) m)
+  pub join_left : Tagged words t 10 → Answer (Continue (first_of words t, m))
   unfolding seen node_of in_word layout table nodes expression_of closed
   join_left e = (sym (ap (closed (slots m)) (expr_is words o t 10 e)), (row_below words o t 10 e, mod_below _))
 
-  pub wait_left : Tagged words t 18 → Answer (At (first_of words t) m)
+  pub wait_left : Tagged words t 18 → Answer (Continue (first_of words t, m))
   unfolding seen node_of in_word layout table nodes expression_of closed
   wait_left e = (sym (ap (closed (slots m)) (expr_is words o t 18 e)), (row_below words o t 18 e, mod_below _))
 
-  pub notify_left : Tagged words t 19 → Answer (At (first_of words t) m)
+  pub notify_left : Tagged words t 19 → Answer (Continue (first_of words t, m))
   unfolding seen node_of in_word layout table nodes expression_of closed
   notify_left e = (sym (ap (closed (slots m)) (expr_is words o t 19 e)), (row_below words o t 19 e, mod_below _))
 
-  pub notify_all_left : Tagged words t 20 → Answer (At (first_of words t) m)
+  pub notify_all_left : Tagged words t 20 → Answer (Continue (first_of words t, m))
   unfolding seen node_of in_word layout table nodes expression_of closed
   notify_all_left e = (sym (ap (closed (slots m)) (expr_is words o t 20 e)), (row_below words o t 20 e, mod_below _))
 
@@ -184,6 +183,6 @@ module _ (words : List ℕ) (o : Ordered words) (t m : ℕ) where
   unfolding node_of in_word layout table nodes expression_of closed
   synch_left r e b = let k = row_below words o t 11 e in rest_of r _ _ _ _ b k.0 k.1 (sym (ap (closed (slots m)) (expr_is words o t 11 e)))
 
-  pub nothing_left : NoneOf (word.tag_of (get_or words t 0)) (20 ∷ 19 ∷ 18 ∷ 11 ∷ 10 ∷ 9 ∷ 8 ∷ 7 ∷ 6 ∷ 5 ∷ 4 ∷ 3 ∷ 1 ∷ []) → Answer Closed
+  pub nothing_left : NoneOf (word.tag_of (get_or words t 0)) (20 ∷ 19 ∷ 18 ∷ 11 ∷ 10 ∷ 9 ∷ 8 ∷ 7 ∷ 6 ∷ 5 ∷ 4 ∷ 3 ∷ 1 ∷ []) → Answer (Break true)
   unfolding seen
   nothing_left n = (sym (ap (closed (slots m)) (expr_is words o t _ refl) ∙ expr_rest (tree_in words) (condition_in words) (list_in words) (slots m) _ _ n), tt)

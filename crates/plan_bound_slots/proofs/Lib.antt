@@ -1,4 +1,3 @@
-pub mod LeftLaws
 pub mod TermParts
 pub mod Turns
 pub mod Conditions

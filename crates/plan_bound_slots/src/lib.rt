@@ -9,21 +9,18 @@ ghost use Rattle.plan_packed.specs.Inner.Operands.{tag_of};
 ghost use Rattle.plan_packed.specs.Slots.{closed, closedᶜ, closedᵃ};
 ghost use Rattle.plan_packed.specs.Refusals.{uses_unbound_slot};
 ghost use Rattle.plan_packed.specs.Inner.Steps.{Right, Loaded, bit_of, with_slot, slots, Ordered, tree_in, condition_in, list_in, leaf_in};
-ghost use Rattle.plan_bound_slots.specs.Inner.Left.{told, seen, After};
+ghost use Rattle.plan_bound_slots.specs.Inner.Left.{seen, After};
 
 use plan_header::layout;
 use plan_operands::tags;
+use std::ops::ControlFlow;
+use std::ops::ControlFlow::{Break, Continue};
 
-// What is left to see of an expression: nothing, and all slots are bound, or one is not; or the term of an index, with what is bound there.
-#[derive(Clone, Copy)]
-enum Rest {
-    Closed,
-    Open,
-    At(usize, usize),
-}
+// What is left to see of an expression: nothing, and this was seen, whether all slots are bound; or the term of an index, with what is bound there.
+type Rest = ControlFlow<bool, (usize, usize)>;
 
 // This slot is bound.
-fn holds(bound: usize, slot: usize) -> bool
+pub fn holds(bound: usize, slot: usize) -> bool
     requires { slot < 64 }
     ensures { result ≡ bit_of bound slot }
 {
@@ -31,7 +28,7 @@ fn holds(bound: usize, slot: usize) -> bool
 }
 
 // What is bound in a let's second operand; slot 15 binds nothing.
-fn with(bound: usize, slot: usize) -> usize
+pub fn with(bound: usize, slot: usize) -> usize
     requires { slot < 64 }
     ensures { result ≡ with_slot bound slot }
 {
@@ -42,22 +39,12 @@ fn with(bound: usize, slot: usize) -> usize
     }
 }
 
-// Nothing is left to see.
-fn told(closed: bool) -> Rest
-    ensures { result ≡ told closed }
-{
-    if closed { Rest::Closed } else { Rest::Open }
-}
-
 // A term without children, by its 40 bits.
 fn closed_leaf(word: usize, bound: usize) -> bool
     requires { tag_of word < 3 }
     ensures { result ≡ closed (slots bound) (leaf_in word) }
 {
-    if plan_operands::tag(word) != tags::VARIABLE {
-        return true;
-    }
-    holds(bound, plan_operands::slot_of(word))
+    plan_operands::tag(word) != tags::VARIABLE || holds(bound, plan_operands::slot_of(word))
 }
 
 // Two operands, of which one is seen here and the other is left: the second is seen here if it has no children, else the first.
@@ -72,14 +59,14 @@ fn rest_of_two(words: &[usize], first: usize, bound: usize, second: usize, inner
     let word = plan_words::word(words, second);
     if plan_operands::tag(word) < tags::READ {
         if closed_leaf(word, inner) {
-            return Rest::At(first, bound);
+            return Continue((first, bound));
         }
-        return Rest::Open;
+        return Break(false);
     }
     if closed_expression(&*words, first, bound) {
-        return Rest::At(second, inner);
+        return Continue((second, inner));
     }
-    Rest::Open
+    Break(false)
 }
 
 // An expression, taken apart once.
@@ -94,8 +81,8 @@ fn rest_of(words: &[usize], term: usize, bound: usize) -> Rest
     let first = plan_operands::first(word);
     let second = plan_operands::second(word);
     match plan_operands::tag(word) {
-        tags::VARIABLE => told(holds(bound, plan_operands::slot_of(word))),
-        tags::READ => Rest::At(first, bound),
+        tags::VARIABLE => Break(holds(bound, plan_operands::slot_of(word))),
+        tags::READ => Continue((first, bound)),
         tags::WRITE => rest_of_two(
             words,
             first,
@@ -113,22 +100,22 @@ fn rest_of(words: &[usize], term: usize, bound: usize) -> Rest
             if closed_condition(&*words, first, bound) {
                 return rest_of_two(words, second, bound, plan_operands::third(word), bound);
             }
-            Rest::Open
+            Break(false)
         }
         tags::WHILE => {
             if closed_condition(&*words, first, bound) {
-                return Rest::At(second, bound);
+                return Continue((second, bound));
             }
-            Rest::Open
+            Break(false)
         }
-        tags::CALL => told(closed_list(&*words, plan_operands::list_of(word), bound)),
-        tags::FORK => Rest::At(first, bound),
-        tags::JOIN => Rest::At(first, bound),
+        tags::CALL => Break(closed_list(&*words, plan_operands::list_of(word), bound)),
+        tags::FORK => Continue((first, bound)),
+        tags::JOIN => Continue((first, bound)),
         tags::SYNCH => rest_of_two(words, first, bound, second, bound),
-        tags::WAIT => Rest::At(first, bound),
-        tags::NOTIFY => Rest::At(first, bound),
-        tags::NOTIFY_ALL => Rest::At(first, bound),
-        _ => Rest::Closed,
+        tags::WAIT => Continue((first, bound)),
+        tags::NOTIFY => Continue((first, bound)),
+        tags::NOTIFY_ALL => Continue((first, bound)),
+        _ => Break(true),
     }
 }
 
@@ -144,9 +131,8 @@ fn closed_expression(words: &[usize], from: usize, outer: usize) -> bool
     loop {
         let rest = rest_of(words, term, bound);
         match rest {
-            Rest::Closed => return true,
-            Rest::Open => return false,
-            Rest::At(next, inner) => {
+            Break(closed) => return closed,
+            Continue((next, inner)) => {
                 term = next;
                 bound = inner;
             }
@@ -185,9 +171,8 @@ fn closed_condition(words: &[usize], from: usize, bound: usize) -> bool
             tags::EQUAL => {
                 let rest = rest_of_two(words, first, bound, second, bound);
                 match rest {
-                    Rest::Closed => return true,
-                    Rest::Open => return false,
-                    Rest::At(next, inner) => return closed_expression(&*words, next, inner),
+                    Break(closed) => return closed,
+                    Continue((next, inner)) => return closed_expression(&*words, next, inner),
                 }
             }
             _ => return true,
@@ -229,13 +214,11 @@ pub fn lowest_open(plan: &[u8], procedures: usize, count: usize, words: &[usize]
     requires loaded { Loaded plan.now count words.now }
     ensures { Lowest (uses_unbound_slot plan.now) procedures result }
 {
-    let mut procedure = 0;
-    while procedure < procedures {
-        let bound = (1usize << layout::parameters(plan, procedure)) - 1;
-        if !closed_expression(words, layout::root(plan, procedure), bound) {
+    for procedure in 0..procedures {
+        let parameters = layout::parameters(plan, procedure);
+        if !closed_with(words, layout::root(plan, procedure), parameters) {
             return procedure;
         }
-        procedure += 1;
     }
-    procedure
+    procedures
 }

@@ -6,7 +6,6 @@ use Prim.Native.Nat.{ℕ, ◌+◌, ◌-◌, ◌*◌, ◌<◌, min}
 use native.Mathlib.Omega.{arith}
 use lib.ListN.{get_or}
 use Rattle.format.proofs.Ranges.{NoneOf}
-use Rattle.plan_packed.specs.Syntax.{Expression, Condition, Arguments}
 use Rattle.plan_packed.specs.Format.{layout, table}
 use Rattle.plan_packed.specs.Inner.Operands as word
 use Rattle.plan_packed.specs.Trees.{nodes, node_of, expression_of}

@@ -17,14 +17,7 @@ pub const OVER: usize = 65536;
 fn capped_sum(one: usize, other: usize) -> usize
     ensures { result ≡ capped (one + other) }
 {
-    if one > OVER {
-        return OVER;
-    }
-    if other > OVER {
-        return OVER;
-    }
-    let sum = one + other;
-    if sum < OVER { sum } else { OVER }
+    one.saturating_add(other).min(OVER)
 }
 
 // So many moves more, which are no calls.
@@ -53,10 +46,11 @@ fn called(counting: bool, earlier: usize, entry: usize) -> usize
 fn branches(counting: bool, one: usize, other: usize) -> usize
     ensures { result ≡ branches counting one other }
 {
-    if !counting {
-        return one | other;
+    if counting {
+        one.max(other)
+    } else {
+        one | other
     }
-    if one < other { other } else { one }
 }
 
 // An expression. The table has what each procedure's body costs, where moves are counted, else bit q for procedure q.

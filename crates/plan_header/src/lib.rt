@@ -12,10 +12,7 @@ ghost use Rattle.plan_packed.specs.Inner.Steps.{Sized};
 pub fn wrong_length(plan: &[u8]) -> bool
     ensures { result ≡ wrong_length plan.now }
 {
-    if plan.len() < 8 {
-        return true;
-    }
-    plan.len() != 8 + 2 * layout::procedures(plan) + 5 * layout::terms(plan)
+    plan.len() < 8 || plan.len() != 8 + 2 * layout::procedures(plan) + 5 * layout::terms(plan)
 }
 
 pub fn wrong_header(plan: &[u8]) -> bool
@@ -27,25 +24,13 @@ pub fn wrong_header(plan: &[u8]) -> bool
     let count = layout::terms(plan);
     let spare = layout::spare(plan);
     let mask = layout::volatiles(plan);
-    if version > 1 {
-        return true;
-    }
-    if procedures < 1 {
-        return true;
-    }
-    if procedures > 32 {
-        return true;
-    }
-    if count < 1 {
-        return true;
-    }
-    if count > 1024 {
-        return true;
-    }
-    if spare != 0 {
-        return true;
-    }
-    mask / 2147483648 % 2 != 1 // the top bit is field 0, the monitor
+    version > 1
+        || procedures < 1
+        || procedures > 32
+        || count < 1
+        || count > 1024
+        || spare != 0
+        || mask / 2147483648 % 2 != 1 // the top bit is field 0, the monitor
 }
 
 fn wrong_procedure(plan: &[u8], count: usize, procedure: usize) -> bool
@@ -53,13 +38,7 @@ fn wrong_procedure(plan: &[u8], count: usize, procedure: usize) -> bool
     ensures { result ≡ wrong_procedure plan.now procedure }
 {
     let parameters = layout::parameters(plan, procedure);
-    if parameters > 8 {
-        return true;
-    }
-    if procedure == 0 && parameters > 0 {
-        return true;
-    }
-    layout::root(plan, procedure) >= count
+    parameters > 8 || (procedure == 0 && parameters > 0) || layout::root(plan, procedure) >= count
 }
 
 // The lowest procedure that is wrong, or `procedures`.
@@ -67,12 +46,10 @@ pub fn lowest_wrong_procedure(plan: &[u8], procedures: usize, count: usize) -> u
     requires { Sized plan.now procedures count }
     ensures { Lowest (wrong_procedure plan.now) procedures result }
 {
-    let mut procedure = 0;
-    while procedure < procedures {
+    for procedure in 0..procedures {
         if wrong_procedure(plan, count, procedure) {
             return procedure;
         }
-        procedure += 1;
     }
-    procedure
+    procedures
 }

@@ -1,10 +1,9 @@
 -- The row of a token: how long its text is, and its bytes. Assumes nothing.
-use Prim.Native.Nat.{ℕ, zero, suc, ◌+◌, ◌<◌}
-use native.Mathlib.Numerals.{add-one}
+use Prim.Native.Nat.{ℕ, zero, suc, ◌<◌}
 use native.Mathlib.Omega.{arith}
-use mathlib.Core.Path.{◌≡◌, refl, ap, ◌∙◌}
+use mathlib.Core.Path.{◌≡◌, refl, ap}
 use mathlib.Core.List.{List, [], ◌∷◌, map}
-use lib.ListN.{length, get_or, get_or-append}
+use lib.ListN.{length, get_or}
 use Rattle.text.specs.Text.{ascii}
 use Rattle.plan_notation.specs.Tokens.{text_end, texts, text_of}
 use Rattle.plan_layout.specs.Inner.Rows.{text_row, text_rows}
@@ -24,7 +23,3 @@ module _ (t : ℕ) (h : t < text_end) where
   pub first_is : get_or (get_or text_rows t []) 0 0 ≡ length (text_of t)
   unfolding text_row
   first_is = ap (λ (row : List ℕ). get_or row 0 0) row_is
-
-  pub byte_is : (i : ℕ) → i < length (text_of t) → get_or (get_or text_rows t []) (i + 1) 0 ≡ get_or (text_of t) i 0
-  unfolding text_row
-  byte_is i g = ap (λ (row : List ℕ). get_or row (i + 1) 0) row_is ∙ rw add-one (get_or-append (text_of t) _ 0 i g)

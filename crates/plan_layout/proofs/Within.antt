@@ -89,6 +89,15 @@ row_bytes bs h =
     let pad = drop (length bs) columns in
     take_all 9 (bs ++ pad) (omega (arith, length-append bs pad, length-drop (length bs) columns))
 
+-- a row's bytes behind the first, as many as its text has
+pub row_text : (bs row : List ℕ) (w : ℕ) → row ≡ text_row bs → w ≡ length bs → take (1 + w - 1) (drop 1 row) ≡ bs
+unfolding text_row
+row_text bs row w e q =
+    let n : 1 + w - 1 ≡ length bs = omega (arith, q) in
+    ap (λ (l : List ℕ). take (1 + w - 1) (drop 1 l)) e
+    ∙ ap (λ (k : ℕ). take k (bs ++ drop (length bs) columns)) n
+    ∙ take-append_seam bs (drop (length bs) columns)
+
 pub wide_token : {a b : List ℕ} {at m w : ℕ} (bs row : List ℕ) → row ≡ text_row bs → length bs < 10 → w ≡ length bs → at ≤ length a
     → Wrote a at (take (10 - 1) (drop 1 row)) b m → WroteWithin a at bs b (at + w) (at + 9)
 wide_token {at = at} {w = w} bs row e h q k v =

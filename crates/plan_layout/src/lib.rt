@@ -14,8 +14,8 @@ ghost use Rattle.plan_layout.specs.Inner.Marks.{gap_of, Marked, WroteWithin, Lai
 ghost use Rattle.plan_pen.specs.Inner.Pens.{gap_bytes};
 ghost use Rattle.plan_pen.specs.Inner.Looks.{look_rows};
 
-use plan_pen::Gap;
 use plan_pen::looks::Looks;
+use plan_pen::{Gap, Pen};
 use rows::Rows;
 
 // A gap as a mark.
@@ -45,17 +45,13 @@ pub fn measure(rows: &Rows, looks: &Looks, tokens: &[u8], marks: &mut [u16]) -> 
     requires tokens_len_bound { (length tokens.now ≤ 16384) × (length tokens.now ≤ length marks.old) }
     ensures { (result ≡ length (laid_out tokens.now)) × Marked tokens.now marks.new }
 {
-    let mut pen = plan_pen::start();
+    let mut pen = Pen::start();
     let mut total = 0;
-    let mut index = 0;
-    while index < tokens.len() {
-        let token = tokens[index];
-        let width = rows::width(rows, token);
-        let gap = plan_pen::gap_before(looks, pen, token, width);
+    for (index, token) in tokens.iter().enumerate() {
+        let width = rows.width(*token);
+        let gap = pen.pass(looks, *token, width);
         marks[index] = mark(gap);
-        total += plan_pen::length_of(gap) + width;
-        pen = plan_pen::after(looks, pen, token, width, gap);
-        index += 1;
+        total += gap.length() + width;
     }
     total + 1
 }
@@ -64,13 +60,9 @@ fn put_spaces(area: &mut [u8], at: usize, count: usize) -> usize
     requires { at + count ≤ length area.old }
     ensures { Wrote area.old at (replicate count 32) area.new result }
 {
-    let mut next = at;
-    let mut written = 0;
-    while written < count {
-        next = text::put_byte(area, next, b' ');
-        written += 1;
-    }
-    next
+    let end = at + count;
+    area[at..end].fill(b' ');
+    end
 }
 
 fn put_gap(area: &mut [u8], at: usize, gap: Gap) -> usize
@@ -85,17 +77,11 @@ fn put_gap(area: &mut [u8], at: usize, gap: Gap) -> usize
 }
 
 fn put_token(area: &mut [u8], at: usize, rows: &Rows, token: u8, width: usize) -> usize
-    requires rows_value { rows.now ≡ text_rows }
-    requires token_lt_text_end { (token < text_end) × (width ≡ length (text_of token)) × (at + width ≤ length area.old) }
+    requires { (token < text_end) × (width ≡ length (text_of token)) × (at + width ≤ length area.old) }
     ensures { Wrote area.old at (text_of token) area.new result }
 {
-    let mut next = at;
-    let mut index = 0;
-    while index < width {
-        next = text::put_byte(area, next, rows::byte_of(rows, token, index));
-        index += 1;
-    }
-    next
+    let row = rows.row(token);
+    text::put_word(area, at, &row[1..1 + width])
 }
 
 // A gap, and spaces up to 41 bytes.
@@ -114,19 +100,17 @@ fn put_wide_gap(area: &mut [u8], at: usize, gap: Gap) -> usize
 
 // A token, and what else is in its row.
 fn put_wide_token(area: &mut [u8], at: usize, rows: &Rows, token: u8, width: usize) -> usize
-    requires rows_value { rows.now ≡ text_rows }
-    requires token_lt_text_end { (token < text_end) × (width ≡ length (text_of token)) × (at + 9 ≤ length area.old) }
+    requires { (token < text_end) × (width ≡ length (text_of token)) × (at + 9 ≤ length area.old) }
     ensures { WroteWithin area.old at (text_of token) area.new result (at + 9) }
 {
-    let row = rows::row(rows, token);
+    let row = rows.row(token);
     text::put_word(area, at, &row[1..10]);
     at + width
 }
 
 // A gap and a token, and what else is written with them.
 fn put_wide(area: &mut [u8], at: usize, rows: &Rows, token: u8, gap: Gap, width: usize) -> usize
-    requires rows_value { rows.now ≡ text_rows }
-    requires token_lt_text_end { (token < text_end) × (width ≡ length (text_of token)) × (gap.spaces ≤ 40) × (at + 50 ≤ length area.old) }
+    requires { (token < text_end) × (width ≡ length (text_of token)) × (gap.spaces ≤ 40) × (at + 50 ≤ length area.old) }
     ensures { WroteWithin area.old at (gap_bytes gap ++ text_of token) area.new result (at + 50) }
 {
     let next = put_wide_gap(area, at, gap);
@@ -135,11 +119,11 @@ fn put_wide(area: &mut [u8], at: usize, rows: &Rows, token: u8, gap: Gap, width:
 
 // A token behind its gap. Where the text goes on for 50 bytes, both are written with so many bytes as any has, since what follows is written over these.
 fn put_next(rows: &Rows, token: u8, gap: Gap, area: &mut [u8], at: usize, total: usize) -> usize
-    requires rows_value { (rows.now ≡ text_rows) × (token < text_end) × (gap.spaces ≤ 40) }
+    requires token_value { (token < text_end) × (gap.spaces ≤ 40) }
     requires token_bound { (at + length (gap_bytes gap) + length (text_of token) ≤ total) × (total ≤ length area.old) }
     ensures { WroteWithin area.old at (gap_bytes gap ++ text_of token) area.new result total }
 {
-    let width = rows::width(rows, token);
+    let width = rows.width(token);
     if total - at < 50 {
         let next = put_gap(area, at, gap);
         return put_token(area, next, rows, token, width);
@@ -154,11 +138,9 @@ pub fn lay_out(rows: &Rows, tokens: &[u8], marks: &[u16], area: &mut [u8], total
     ensures { area.new ≡ overwrite (laid_out tokens.now) area.old }
 {
     let mut at = 0;
-    let mut index = 0;
-    while index < tokens.len() {
+    for (index, token) in tokens.iter().enumerate() {
         let gap = gap_of(marks[index]);
-        at = put_next(rows, tokens[index], gap, area, at, total);
-        index += 1;
+        at = put_next(rows, *token, gap, area, at, total);
     }
     text::put_byte(area, at, b'\n');
 }
@@ -170,19 +152,15 @@ pub fn lay_within(rows: &Rows, looks: &Looks, tokens: &[u8], room: &mut [u8]) ->
     requires tokens_len_bound { (length tokens.now ≤ 16384) × (0 < length room.old) }
     ensures { LaidWithin tokens.now room.new result }
 {
-    let mut pen = plan_pen::start();
+    let mut pen = Pen::start();
     let mut at = 0;
-    let mut index = 0;
-    while index < tokens.len() {
+    for token in tokens {
         if room.len() - at < 51 {
             return 0;
         }
-        let token = tokens[index];
-        let width = rows::width(rows, token);
-        let gap = plan_pen::gap_before(looks, pen, token, width);
-        at = put_wide(room, at, rows, token, gap, width);
-        pen = plan_pen::after(looks, pen, token, width, gap);
-        index += 1;
+        let width = rows.width(*token);
+        let gap = pen.pass(looks, *token, width);
+        at = put_wide(room, at, rows, *token, gap, width);
     }
     text::put_byte(room, at, b'\n')
 }

@@ -1,17 +1,33 @@
 // The texts of the tokens, a row to a token.
-ghost use Rattle.std.specs.Prelude.{◌≡◌, ◌<◌, length, get_or};
+ghost use Rattle.std.specs.Prelude.{◌≡◌, ℕ, ◌<◌, List, length};
 ghost use Rattle.plan_notation.specs.Tokens.{text_end, text_of};
 ghost use Rattle.plan_layout.specs.Inner.Rows.{text_row, text_rows};
 
 use byte_numbers::wide;
+use std::marker::Model;
 
 // How many tokens there are.
 const TOKENS: usize = 69;
 
-// How long a text is, its bytes, and up to ten the number of each column: the compiler writes a run of equal bytes apart.
-pub type Rows = [[u8; 10]; TOKENS];
+// The rows of all tokens. They are always those of the texts.
+#[derive(Drop)]
+pub struct TextRows {
+    table: [[u8; 10]; TOKENS],
+}
 
-const ROWS: Rows = [
+impl Model for TextRows {
+    ghost Value = { List (List ℕ) };
+
+    ghost view = { λ rows. rows.table };
+
+    ghost invariant = { λ rows. rows.table ≡ text_rows };
+}
+
+// The name by which they are passed: a struct of this name and the function `rows` would differ only in case.
+pub type Rows = TextRows;
+
+// How long a text is, its bytes, and up to ten the number of each column: the compiler writes a run of equal bytes apart.
+const ROWS: [[u8; 10]; TOKENS] = [
     [1, 48, 2, 3, 4, 5, 6, 7, 8, 9], // 0
     [1, 49, 2, 3, 4, 5, 6, 7, 8, 9], // 1
     [1, 50, 2, 3, 4, 5, 6, 7, 8, 9], // 2
@@ -87,32 +103,23 @@ const ROWS: Rows = [
 pub fn rows() -> Rows
     ensures { result ≡ text_rows }
 {
-    ROWS
+    TextRows { table: ROWS }
 }
 
-// How many bytes the text of a token has.
-pub fn width(rows: &Rows, token: u8) -> usize
-    requires rows_value { rows.now ≡ text_rows }
-    requires token_lt_text_end { token < text_end }
-    ensures { result ≡ length (text_of token) }
-{
-    wide(rows[wide(token)][0])
-}
+impl TextRows {
+    // How many bytes the text of a token has.
+    pub fn width(&self, token: u8) -> usize
+        requires { token < text_end }
+        ensures { result ≡ length (text_of token) }
+    {
+        wide(self.table[wide(token)][0])
+    }
 
-// A byte of it.
-pub fn byte_of(rows: &Rows, token: u8, index: usize) -> u8
-    requires rows_value { rows.now ≡ text_rows }
-    requires token_lt_text_end { (token < text_end) × (index < length (text_of token)) }
-    ensures { result ≡ get_or (text_of token) index 0 }
-{
-    rows[wide(token)][index + 1]
-}
-
-// The whole row of a token.
-pub fn row(rows: &Rows, token: u8) -> [u8; 10]
-    requires rows_value { rows.now ≡ text_rows }
-    requires token_lt_text_end { token < text_end }
-    ensures { result ≡ text_row (text_of token) }
-{
-    rows[wide(token)]
+    // The whole row of a token.
+    pub fn row(&self, token: u8) -> [u8; 10]
+        requires { token < text_end }
+        ensures { result ≡ text_row (text_of token) }
+    {
+        self.table[wide(token)]
+    }
 }

@@ -3,12 +3,14 @@ use Prim.Native.Nat.{ℕ, ◌+◌, ◌≤◌, ◌<◌}
 use native.Mathlib.Omega.{arith}
 use native.Mathlib.Decide.{dec_le}
 use mathlib.Core.Path.{◌≡◌, refl, sym, ap, ◌∙◌}
-use mathlib.Core.List.{List, [], ◌∷◌, ◌++◌, append_assoc, map}
+use mathlib.Core.List.{List, [], ◌∷◌, ◌++◌, append_assoc, append-nil, map}
 use lib.ListN.{length, length-append, set, length-set}
 use Rattle.format.proofs.AreaLaws.{overwrite_none, overwrite_next}
 use Rattle.plan_notation.specs.Lexing.{Token, token}
 use Rattle.plan_lexer.specs.Kept.{Kept}
-use Rattle.plan_lexer.specs.Inner.Adds.{Adds}
+use Rattle.std.specs.Prelude.{Option, None, Some}
+use Rattle.plan_lexer.specs.Inner.Adds.{Adds, codes_in}
+use Rattle.plan_lexer.specs.Inner.Lexed.{and_then}
 
 pub kept_none : (area : List ℕ) → Kept area [] area 0
 kept_none area = record { fits = λ h. (refl, sym (overwrite_none area)); full = λ h. absurd (omega arith); same = refl }
@@ -49,3 +51,9 @@ codes ts = map (λ (t : Token). t.code) ts
 -- behind others: that of the first token, and then more
 pub codes_on : (done : List ℕ) (t i : ℕ) {ts rest : List Token} → ts ≡ token t i ∷ rest → done ++ codes ts ≡ (done ++ (t ∷ [])) ++ codes rest
 codes_on done t i {ts} {rest} e = ap (λ (l : List Token). done ++ codes l) e ∙ sym (append_assoc done (t ∷ []) (codes rest))
+
+-- the same of what begins with a byte, which may be no token
+pub codes_past : (done : List ℕ) (code : Option ℕ) (i : ℕ) {ts : List Token} (rest : List Token) → ts ≡ and_then code i rest
+    → done ++ codes ts ≡ (done ++ codes_in code) ++ codes rest
+codes_past done None i rest e = ap (λ (l : List Token). done ++ codes l) e ∙ ap (λ (l : List ℕ). l ++ codes rest) (sym (append-nil done))
+codes_past done (Some code) i rest e = codes_on done code i e

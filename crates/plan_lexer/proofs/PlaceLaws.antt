@@ -2,7 +2,11 @@
 use Prim.Native.Nat.{ℕ, zero, suc, ◌+◌, ◌-◌, ◌<◌}
 use native.Mathlib.Numerals.{add-one}
 use native.Mathlib.Omega.{arith}
-use mathlib.Core.Path.{◌≡◌, refl, ap, ◌∙◌}
+use mathlib.Core.Path.{◌≡◌, refl, sym, ap, ◌∙◌}
+use mathlib.Core.Bool.{true, false}
+use Rattle.std.specs.Prelude.{Option, None, Some, is_some}
+use Rattle.std.proofs.lemmas.Bool.{false≢true}
+use Rattle.plan_lexer.specs.Inner.Lexed.{and_then}
 use mathlib.Core.List.{List, [], ◌∷◌}
 use lib.ListN.{length, get_or, drop}
 use lib.Seq.{drop-cons}
@@ -23,6 +27,20 @@ module _ (t i : ℕ) (ts : List Token) (n end : ℕ) where
   later_place h =
       let s : n ≡ suc (n - 1) = omega (arith, h) in
       ap (λ (k : ℕ). (get_or (token t i ∷ ts) k (token text_end end)).place) s
+
+-- the same of what begins at a place, which may be no token
+module _ (i : ℕ) (ts : List Token) (n end : ℕ) where
+  pub first_some : (code : Option ℕ) → is_some code ≡ true → n ≡ 0 → place_in (and_then code i ts) n end ≡ i
+  first_some None h e = absurd (false≢true h)
+  first_some (Some code) h e = first_place code i ts n end e
+
+  pub later_some : (code : Option ℕ) → is_some code ≡ true → (n ≡ 0 → ⊥) → place_in (and_then code i ts) n end ≡ place_in ts (n - 1) end
+  later_some None h e = absurd (false≢true h)
+  later_some (Some code) h e = later_place code i ts n end e
+
+  pub past_none : (code : Option ℕ) → is_some code ≡ false → place_in (and_then code i ts) n end ≡ place_in ts n end
+  past_none None h = refl
+  past_none (Some code) h = absurd (false≢true (sym h))
 
 -- the text's end is the last token, and stands for those that there are not
 pub at_end : (n end : ℕ) → place_in (token text_end end ∷ []) n end ≡ end

@@ -1,3 +1,3 @@
 -- What only inner contracts speak of: no reader of the entries' promises needs it. Assumes nothing.
 pub mod Adds
-pub mod TokenEnds
+pub mod Lexed

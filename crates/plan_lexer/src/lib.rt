@@ -1,17 +1,14 @@
 // From the bytes of a text to its tokens (docs/FORMAT.md, "A plan as text").
 #![tactic(auto)]
 
+mod lexemes; // lexemes.rt: what begins at a byte
 pub mod places; // places.rt: the line and the column of a token
 
 ghost use Rattle.plan_notation.specs.Lexing.{codes_of};
 ghost use Rattle.plan_lexer.specs.Kept.{Kept};
-ghost use Rattle.plan_lexer.specs.Inner.Adds.{Adds};
+ghost use Rattle.plan_lexer.specs.Inner.Adds.{Adds, AddsSome};
 
-use plan_scanner::classes::{BLANK, HASH, MARK};
-use plan_scanner::names::UNKNOWN;
-use plan_scanner::{classes, extents, names};
-
-const BECOMES: u8 = 67;
+use plan_scanner::classes;
 
 const TEXT_END: u8 = 69;
 
@@ -26,7 +23,17 @@ fn put(tokens: &mut [u8], count: usize, code: u8) -> usize
     count + 1
 }
 
-// The tokens of a text, with its end. How many they are; one more than there is room for, if they are more. What is most frequent is asked first.
+// The same, if there is one.
+fn put_some(tokens: &mut [u8], count: usize, code: Option<u8>) -> usize
+    ensures { AddsSome tokens.old count code tokens.new result }
+{
+    match code {
+        Some(code) => put(tokens, count, code),
+        None => count,
+    }
+}
+
+// The tokens of a text, with its end. How many they are; one more than there is room for, if they are more.
 pub fn lex(text: &[u8], tokens: &mut [u8]) -> usize
     ensures { Kept tokens.old (codes_of text.now) tokens.new result }
 {
@@ -34,33 +41,9 @@ pub fn lex(text: &[u8], tokens: &mut [u8]) -> usize
     let mut count = 0;
     let mut index = 0;
     while index < text.len() {
-        let class = classes::class_of(&classes, text[index]);
-        if class == BLANK {
-            index += 1;
-            continue;
-        }
-        if class < HASH {
-            let name = extents::name_from(&classes, text, index + 1, class);
-            count = put(tokens, count, names::token_of(name.value));
-            index = name.end;
-            continue;
-        }
-        if MARK <= class {
-            count = put(tokens, count, class);
-            index += 1;
-            continue;
-        }
-        if class == HASH {
-            index = extents::comment_end(text, index + 1);
-            continue;
-        }
-        if extents::becomes(text, index) {
-            count = put(tokens, count, BECOMES);
-            index += 2;
-            continue;
-        }
-        count = put(tokens, count, UNKNOWN);
-        index += 1;
+        let found = lexemes::begun(&classes, text, index);
+        count = put_some(tokens, count, found.code);
+        index = found.end;
     }
     put(tokens, count, TEXT_END)
 }

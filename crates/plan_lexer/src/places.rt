@@ -1,38 +1,16 @@
 // The line and the column of a token.
 ghost use Rattle.std.specs.Prelude.{◌≡◌, length};
 ghost use Rattle.plan_notation.specs.Lexing.{tokens_of, place_after};
-ghost use Rattle.plan_scanner.specs.Inner.Classes.{Classed, Scanned};
 ghost use Rattle.plan_lexer.specs.Place.{place_in, place_of};
-ghost use Rattle.plan_lexer.specs.Inner.TokenEnds.{Begins, TokenEnds};
 
-use plan_scanner::classes::{BLANK, Classes, HASH, MARK};
-use plan_scanner::{classes, extents};
+use crate::lexemes;
+use plan_scanner::classes;
 
 // Both from 1.
 #[derive(Clone, Copy)]
 pub struct Spot {
     pub line: usize,
     pub column: usize,
-}
-
-// The place of the byte behind a token, by the place and the class of its first.
-fn token_end(classes: &Classes, text: &[u8], index: usize, class: u8) -> usize
-    requires classed { Classed classes.now }
-    requires scanned { Scanned text.now index class }
-    requires begins { Begins class }
-    ensures { TokenEnds text.now index result }
-{
-    if class < HASH {
-        let name = extents::name_from(classes, text, index + 1, class);
-        return name.end;
-    }
-    if MARK <= class {
-        return index + 1;
-    }
-    if extents::becomes(text, index) {
-        return index + 2;
-    }
-    index + 1
 }
 
 // The first byte of a token by its number; the text's length if there are fewer.
@@ -43,21 +21,14 @@ fn first_byte(text: &[u8], number: usize) -> usize
     let mut left = number;
     let mut index = 0;
     while index < text.len() {
-        let class = classes::class_of(&classes, text[index]);
-        if class == BLANK {
-            index += 1;
-            continue;
+        let found = lexemes::begun(&classes, text, index);
+        if found.code.is_some() {
+            if left == 0 {
+                return index;
+            }
+            left -= 1;
         }
-        if class == HASH {
-            index = extents::comment_end(text, index + 1);
-            continue;
-        }
-        let end = token_end(&classes, text, index, class);
-        if left == 0 {
-            return index;
-        }
-        left -= 1;
-        index = end;
+        index = found.end;
     }
     text.len()
 }
@@ -68,20 +39,15 @@ fn spot_after(bytes: &[u8]) -> Spot
 {
     let mut line = 1;
     let mut column = 1;
-    let mut index = 0;
-    while index < bytes.len() {
-        if bytes[index] == b'\n' {
+    for byte in bytes {
+        if *byte == b'\n' {
             line += 1;
             column = 1;
         } else {
             column += 1;
         }
-        index += 1;
     }
-    Spot {
-        line: line,
-        column: column,
-    }
+    Spot { line, column }
 }
 
 // The line and the column of a token by its number; those of the text's end if there are fewer.

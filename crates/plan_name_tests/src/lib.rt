@@ -52,17 +52,15 @@ fn list_length(
     requires from_lt_count { from < count }
     ensures { result ≡ list_length plan.now 9 from }
 {
-    let mut length = 0;
     let mut term = from;
-    while length < 9 {
+    for length in 0..9 {
         let word = words[term];
         if plan_operands::tag(word) != tags::LIST {
             return length;
         }
         term = plan_operands::second(word);
-        length += 1;
     }
-    length
+    9
 }
 
 // The term, which is a call, has a list that is not as long as the parameters.

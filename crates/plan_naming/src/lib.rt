@@ -12,7 +12,7 @@ ghost use Rattle.plan_packed.specs.Inner.Steps.{misplaced_root, not_once};
 
 use plan_header::layout;
 use plan_operands::rows;
-use plan_operands::rows::{FIRST, Rows, SECOND, THIRD};
+use plan_operands::rows::{FIRST, Rows};
 
 // Term `index` is named, where the table wants `sort`: it is counted in `times`, and the answer is the lower of `best` and the
 // term, if that is of another sort.
@@ -50,24 +50,17 @@ fn name_children(
 {
     let word = words[term];
     let tag = plan_operands::tag(word);
-    let first = rows::number(rows, tag, FIRST);
-    if first == 0 {
-        return best;
+    let mut least = best;
+    for operand in 0..3 {
+        let column = FIRST + 2 * operand;
+        let sort = rows::number(rows, tag, column);
+        if sort == 0 {
+            return least;
+        }
+        let child = rows::child(rows, tag, column + 1, word);
+        least = name(rows, words, times, sort, child, least);
     }
-    let child = rows::child(rows, tag, FIRST + 1, word);
-    let least = name(rows, words, times, first, child, best);
-    let second = rows::number(rows, tag, SECOND);
-    if second == 0 {
-        return least;
-    }
-    let child = rows::child(rows, tag, SECOND + 1, word);
-    let least = name(rows, words, times, second, child, least);
-    let third = rows::number(rows, tag, THIRD);
-    if third == 0 {
-        return least;
-    }
-    let child = rows::child(rows, tag, THIRD + 1, word);
-    name(rows, words, times, third, child, least)
+    least
 }
 
 // Each procedure names its root.
@@ -87,11 +80,9 @@ fn name_roots(
     ensures counted { Counted (root_times plan.now procedures) times.new }
 {
     let mut best = count;
-    let mut procedure = 0;
-    while procedure < procedures {
+    for procedure in 0..procedures {
         let root = layout::root(plan, procedure);
         best = name(rows, words, times, rows::E, root, best);
-        procedure += 1;
     }
     best
 }
@@ -113,11 +104,9 @@ pub fn name_all(
     ensures counted { Counted (all_times plan.now count) times.new }
 {
     let mut best = name_roots(rows, plan, procedures, count, words, times);
-    let mut term = 0;
-    while term < count {
+    for term in 0..count {
         let least = name_children(rows, words, times, term, best);
         best = plan_name_tests::lower_call(plan, procedures, count, words, term, least);
-        term += 1;
     }
     best
 }
@@ -128,10 +117,8 @@ fn all_once(times: &[u8; 1024], count: usize) -> bool
     ensures { result ≡ true → (t : ℕ) → t < count → not_once times.now t ≡ false }
 {
     let mut once = true;
-    let mut term = 0;
-    while term < count {
-        once = once & (times[term] == 1);
-        term += 1;
+    for named in &times[..count] {
+        once &= *named == 1;
     }
     once
 }
@@ -144,12 +131,8 @@ pub fn lowest_miscounted(times: &[u8; 1024], count: usize) -> usize
     if all_once(times, count) {
         return count;
     }
-    let mut term = 0;
-    while term < count {
-        if times[term] != 1 {
-            return term;
-        }
-        term += 1;
-    }
-    term
+    times[..count]
+        .iter()
+        .position(|named| *named != 1)
+        .unwrap_or(count)
 }

@@ -21,11 +21,9 @@ pub fn name_roots(plan: &[u8], procedures: usize, count: usize, notes: &mut [u8;
     requires notes_value { notes.old ≡ replicate 1024 0 }
     ensures { RootsNoted plan.now procedures notes.new }
 {
-    let mut procedure = 0;
-    while procedure < procedures {
+    for procedure in 0..procedures {
         let root = layout::root(plan, procedure);
         name(notes, rows::E, root);
-        procedure += 1;
     }
 }
 
@@ -44,8 +42,7 @@ pub fn all_fit(
     requires terms_noted { TermsNoted plan.now count notes.now }
     ensures { result ≡ true → Fitting plan.now count }
 {
-    let mut term = 0;
-    while term < count {
+    for term in 0..count {
         let tag = plan_operands::tag(words[term]);
         if notes[term] != rows::number(rows, tag, rows::SORT) {
             return false;
@@ -53,7 +50,6 @@ pub fn all_fit(
         if tag == tags::CALL && plan_name_tests::wrong_list(plan, procedures, count, words, term) {
             return false;
         }
-        term += 1;
     }
     true
 }

@@ -21,10 +21,7 @@ fn wrong_mask(fields: usize) -> bool
     requires { fields < 4294967296 }
     ensures { result ≡ wrong_operand 0 0 0 mask fields }
 {
-    if fields >= 2147483648 {
-        return true;
-    }
-    usize::count_ones(fields) > 8
+    fields >= 2147483648 || fields.count_ones() > 8
 }
 
 // A let's slot: 0 to 7, or 15.

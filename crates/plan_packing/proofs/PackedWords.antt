@@ -1,5 +1,5 @@
 -- The 40 bits of each tag's terms as sums. Assumes nothing.
-use Prim.Native.Nat.{ℕ, suc, ◌+◌, ◌*◌, ◌/◌, ◌%◌, ◌^◌, ◌<◌}
+use Prim.Native.Nat.{ℕ, suc, ◌+◌, ◌-◌, ◌*◌, ◌/◌, ◌%◌, ◌^◌, ◌≤◌, ◌<◌}
 use native.Mathlib.Omega.{arith}
 use mathlib.Core.Path.{◌≡◌, sym, ◌∙◌}
 use mathlib.Core.List.{List}
@@ -90,16 +90,26 @@ module _ (w : ℕ) where
   pub let_is : (k s x y : ℕ) → k ≡ 5 → tag_of w ≡ 5 → s ≡ slot_bits w → k * 34359738368 + s * 2147483648 + x * 2097152 + y * 2048 ≡ two_word w x y
   let_is k s x y d e q = rw d (let_word_lem s x y ∙ rw q (sym (two_let x y e)))
 
--- ---- five bytes
+-- ---- a number's bytes
 
-pub five_bytes : (area : List ℕ) (at w : ℕ)
-    → set (set (set (set (set area at (w / 4294967296 % 256)) (at + 1) (w / 16777216 % 256)) (at + 2) (w / 65536 % 256)) (at + 3) (w / 256 % 256)) (at + 4)
-    (w % 256) ≡ sets area at (bytes_of 5 w)
+-- one byte more of n: those that are left stay to be written behind it
+pub one_byte : (area : List ℕ) (at n i x : ℕ) → i < n
+    → sets (set area (at + i) (x / 2 ^ (8 * (n - 1 - i)) % 256)) (at + (i + 1)) (bytes_of (n - (i + 1)) x) ≡ sets area (at + i) (bytes_of (n - i) x)
 unfolding bytes_of
-five_bytes area at w =
-    let one : at + 1 ≡ suc at = omega arith in
-    let two : at + 2 ≡ suc (suc at) = omega arith in
-    let three : at + 3 ≡ suc (suc (suc at)) = omega arith in
-    let four : at + 4 ≡ suc (suc (suc (suc at))) = omega arith in
-    let last : w % 256 ≡ w / 1 % 256 = omega arith in
-    rw (one, two, three, four, last)
+one_byte area at n i x h =
+    let left : n - i ≡ suc (n - (i + 1)) = omega arith in
+    let after : n - 1 - i ≡ n - (i + 1) = omega arith in
+    let place : at + (i + 1) ≡ suc (at + i) = omega arith in
+    rw (left, after, place)
+
+-- at first all are left
+pub all_left : (area : List ℕ) (at n x : ℕ) → sets area (at + 0) (bytes_of (n - 0) x) ≡ sets area at (bytes_of n x)
+all_left area at n x =
+    let left : n - 0 ≡ n = omega arith in
+    let place : at + 0 ≡ at = omega arith in
+    rw (left, place)
+
+-- at last none
+pub none_left : (area : List ℕ) (at n i x : ℕ) → n ≤ i → area ≡ sets area (at + i) (bytes_of (n - i) x)
+unfolding bytes_of
+none_left area at n i x h = let left : n - i ≡ 0 = omega arith in rw left

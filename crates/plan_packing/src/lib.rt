@@ -77,14 +77,22 @@ pub fn call(word: usize, list: usize) -> usize
         + list * plan_operands::ARGUMENTS
 }
 
+// A number's last N bytes, the high one first.
+pub fn put_bytes<const N: usize>(area: &mut [u8], at: usize, number: usize)
+    requires in_bounds { at + N ≤ length area.old }
+    requires few { N ≤ 8 }
+    ensures { area.new ≡ sets area.old at (bytes_of N number) }
+{
+    for place in 0..N {
+        let after = 8 * (N - 1 - place);
+        area[at + place] = ((number >> after) % 256) as u8;
+    }
+}
+
 // The five bytes of a term.
 pub fn put(area: &mut [u8], at: usize, word: usize)
     requires { at + 5 ≤ length area.old }
     ensures { area.new ≡ sets area.old at (bytes_of 5 word) }
 {
-    area[at] = (word / 4294967296 % 256) as u8;
-    area[at + 1] = (word / 16777216 % 256) as u8;
-    area[at + 2] = (word / 65536 % 256) as u8;
-    area[at + 3] = (word / 256 % 256) as u8;
-    area[at + 4] = (word % 256) as u8;
+    put_bytes::<5>(area, at, word)
 }

@@ -2,7 +2,7 @@
 use Prim.Native.Nat.{ℕ, ◌+◌, ◌-◌, ◌*◌, ◌/◌, ◌%◌, ◌≤◌, ◌<◌}
 use native.Mathlib.Decide.{dec_lt, ℕ_discrete}
 use native.Mathlib.Omega.{arith}
-use mathlib.Core.Path.{◌≡◌, refl, sym, subst, ◌∙◌}
+use mathlib.Core.Path.{◌≡◌, refl, sym, subst}
 use mathlib.Core.Bool.{true, false}
 use mathlib.Core.List.{List}
 use lib.ListN.{length, get_or, drop, get_or-eq_default}
@@ -21,9 +21,8 @@ use Rattle.plan_parser.specs.Inner.Making.{Makeable}
 use Rattle.plan_parser.specs.Inner.Reading.{State, Going, NoneLeft, Found, Went, Turned}
 use Rattle.plan_parser.specs.Inner.Turning.{number_of, sight_of, Ready, Turns, MadeOr, FormOf, TakenBy, ValueOf, Misplaced}
 use Rattle.plan_parser.specs.declared.turns.Standing.{Standing}
-use Rattle.plan_parser.specs.declared.turns.Turn.{Turn}
-use Rattle.plan_parser.specs.declared.turns.Turn.TheVariants.{On}
-use Rattle.plan_parser.specs.declared.turns.Turn.TheVariants as turn
+use Rattle.plan_parser.specs.Inner.Reading.{Turn}
+use Rattle.std.specs.Prelude.{Ok, Err}
 use Rattle.plan_parser.proofs.StackLaws.{looks, last_small}
 use Rattle.plan_parser.proofs.TurnLaws.{small_entries, sound, turned_on, turned_stop, turned_none, makeable, turned_made}
 
@@ -69,35 +68,35 @@ module _ (tokens goals values : List ℕ) (s : Standing) (code : ℕ) (d : Ready
     pub called_on : (taken kept next digits popped value : ℕ) (goals' values' : List ℕ) (s' : Standing)
         → Went goals values s taken kept next digits popped value goals' values' s'
         → Calls counts g (sight_of tokens words values s) (Go taken kept next digits popped value)
-        → Turned tokens counts goals values words goals' values' words s (On s')
+        → Turned tokens counts goals values words goals' values' words s (Ok s')
     called_on taken kept next digits popped value goals' values' s' w p =
         turned_on tokens counts goals values words s st d.going taken kept next digits popped value
         (found (Go taken kept next digits popped value) p) goals' values' s' w
 
-    pub called_stop : (reason : ℕ) (r : Turn) → r ≡ turn.Stop reason s.at → Calls counts g (sight_of tokens words values s) (Stop 0 reason)
+    pub called_stop : (reason : ℕ) (r : Turn) → r ≡ Err (record { reason = reason; at = s.at }) → Calls counts g (sight_of tokens words values s) (Stop 0 reason)
         → Turned tokens counts goals values words goals values words s r
     called_stop reason r q p =
         let z : s.at + 0 ≡ s.at = omega arith in
         rw q (rw z at (turned_stop tokens counts goals values words s st d.going 0 reason (found (Stop 0 reason) p)))
 
     pub called_past : (reason : ℕ) → Calls counts g (sight_of tokens words values s) (Stop 1 reason)
-        → Turned tokens counts goals values words goals values words s (turn.Stop reason (s.at + 1))
+        → Turned tokens counts goals values words goals values words s (Err (record { reason = reason; at = s.at + 1 }))
     called_past reason p = turned_stop tokens counts goals values words s st d.going 1 reason (found (Stop 1 reason) p)
 
   module _ (g : Goal) (e : goal_of code ≡ g) where
     pub turns_on : (taken kept next digits popped value : ℕ) (goals' values' : List ℕ) (s' : Standing)
         → Went goals values s taken kept next digits popped value goals' values' s'
         → ((counts : List ℕ) → Calls counts g (sight_of tokens words values s) (Go taken kept next digits popped value))
-        → Turns tokens goals values words goals' values' words s (On s')
+        → Turns tokens goals values words goals' values' words s (Ok s')
     turns_on taken kept next digits popped value goals' values' s' w p counts small st = called_on counts small st g e taken kept next digits popped value
         goals' values' s' w (p counts)
 
-    pub turns_stop : (reason : ℕ) (r : Turn) → r ≡ turn.Stop reason s.at
+    pub turns_stop : (reason : ℕ) (r : Turn) → r ≡ Err (record { reason = reason; at = s.at })
         → ((counts : List ℕ) → Calls counts g (sight_of tokens words values s) (Stop 0 reason)) → Turns tokens goals values words goals values words s r
     turns_stop reason r q p counts small st = called_stop counts small st g e reason r q (p counts)
 
     pub turns_past : (reason : ℕ) → ((counts : List ℕ) → Calls counts g (sight_of tokens words values s) (Stop 1 reason))
-        → Turns tokens goals values words goals values words s (turn.Stop reason (s.at + 1))
+        → Turns tokens goals values words goals values words s (Err (record { reason = reason; at = s.at + 1 }))
     turns_past reason p counts small st = called_past counts small st g e reason (p counts)
 
 -- ---- before a turn
@@ -132,10 +131,10 @@ module _ (tokens counts goals values words : List ℕ) (s : Standing) (st : Stat
 
   pub turns_made : NoneLeft words s → (words' values' : List ℕ) (r : Turn) → MadeOr words values s (code - 128) words' values' r
       → Turned tokens counts goals values words goals values' words' s r
-  turns_made none words' values' (On s') m = turned_made tokens counts goals values words s st gg (code - 128) make_found (λ z. let h = m.0 in omega arith) words'
+  turns_made none words' values' (Ok s') m = turned_made tokens counts goals values words s st gg (code - 128) make_found (λ z. let h = m.0 in omega arith) words'
       values' s' m.1
-  turns_made none words' values' (turn.Stop reason at) m =
-      rw (m.1, m.2, m.3, m.4) (turned_none tokens counts goals values words s st gg (code - 128) make_found none m.0)
+  turns_made none words' values' (Err z) m =
+      rw (m.1, m.2, m.3) (turned_none tokens counts goals values words s st gg (code - 128) make_found none m.0)
 
 -- ---- a word
 

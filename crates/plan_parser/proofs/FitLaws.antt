@@ -1,23 +1,23 @@
 -- Goals that find what they take still do after a step. Assumes nothing.
-use Prim.Native.Nat.{ℕ, zero, suc, ◌+◌, ◌-◌, ◌*◌, ◌^◌, ◌≤◌, ◌<◌}
+use Prim.Native.Nat.{ℕ, zero, suc, ◌+◌, ◌-◌, ◌^◌, ◌≤◌, ◌<◌}
 use native.Mathlib.Nat.{pow-le-pow_right}
 use native.Mathlib.Decide.{dec_lt, ℕ_discrete}
 use native.Mathlib.Omega.{arith}
 use lib.Pow.{pow_pos}
-use mathlib.Core.Path.{◌≡◌, refl, sym, subst, ◌∙◌}
+use mathlib.Core.Path.{◌≡◌, refl}
 use mathlib.Core.Bool.{Bool, true, false, cond, not, ◌&&◌, ◌||◌}
 use mathlib.Core.List.{List, [], ◌∷◌, ◌++◌}
 use lib.Dec.{eqb, ltb, leb}
 use lib.ListN.{length, get_or, drop}
-use borrow.Author.Tests.{ltb-true, leb-true, eqb-true, not-false, eq-eqb, ne_eqb}
+use borrow.Author.Tests.{ltb-true, leb-true, not-false, eq-eqb, ne_eqb}
 use Rattle.format.proofs.Ranges.{by_range}
 use Rattle.plan_notation.specs.Shown.{loose, testing, prefix}
-use Rattle.plan_parsing.specs.Goals.{Sort, either, expression, condition, Goal, expect, operand, more, make, binder, fields, procedure, further, count, Value}
-use Rattle.plan_parsing.specs.Goals.{number, of_expression, of_condition, of_arguments, number_in, operand_counts, terms, value_at, made, Form, forms, argument_goals}
+use Rattle.plan_parsing.specs.Goals.{Sort, expression, condition, Goal, expect, operand, more, make, binder, fields, procedure, further, count, Value}
+use Rattle.plan_parsing.specs.Goals.{number, of_expression, of_condition, of_arguments, number_in, operand_counts, terms, value_at, made, forms, argument_goals}
 use Rattle.plan_parsing.specs.Parser.{ahead, Step, go, stop, Reason, wanted, takes_condition, inside, begun, word_form, operand_step, is_field, dot_step, more_step}
 use Rattle.plan_parsing.specs.Parser.{fields_step, further_step, step, is_expression, is_condition, fits}
 use Rattle.plan_parser_goals.specs.Inner.Encoded.{goal_of}
-use Rattle.plan_parser_goals.specs.Inner.Moves.{IsTerm, IsBelow, IsOf, operand_kinds, Operands, MaskTo, Fits, Sound, onto, form_at}
+use Rattle.plan_parser_goals.specs.Inner.Moves.{IsTerm, operand_kinds, Fits, Sound, form_at}
 use Rattle.plan_parser_goals.proofs.Numbers.{expect_goal, further_goal}
 
 -- what a step leaves finds what it takes

@@ -2,8 +2,8 @@
 use Prim.Native.Nat.{ℕ, zero, suc, ◌+◌, ◌-◌, ◌*◌, ◌≤◌, ◌<◌}
 use native.Mathlib.Decide.{dec_lt}
 use native.Mathlib.Omega.{arith}
-use mathlib.Core.Path.{◌≡◌, refl, sym, ap, subst, ◌∙◌}
-use mathlib.Core.Bool.{true, false, cond, ◌||◌, ◌&&◌, true≢false}
+use mathlib.Core.Path.{◌≡◌, refl, sym, ap, ◌∙◌}
+use mathlib.Core.Bool.{true, false, ◌&&◌, true≢false}
 use mathlib.Core.List.{List, [], ◌∷◌, ◌++◌, append-nil}
 use lib.ListN.{length, get_or, drop, length-drop}
 use lib.Dec.{eqb, ltb}
@@ -16,10 +16,11 @@ use Rattle.plan_parsing.specs.Plan.{procedure_goals}
 use Rattle.plan_parser_goals.specs.Inner.Encoded.{goal_of, reason_of, goals_of, value_of, values_of}
 use Rattle.plan_parser_goals.specs.Inner.Moves.{IsTerm, IsBelow, Operands, Fits, onto}
 use Rattle.plan_parser.specs.Inner.Stacks.{Stacked, Entries}
-use Rattle.plan_parser.specs.Inner.Reading.{Sized, terms_left, State, Going, NoneLeft, shown, Kept, Turned, Resumes, Finished, Reads, Ran, read_from, crowded_by}
+use Rattle.plan_parser.specs.Inner.Reading.{Sized, terms_left, State, Going, NoneLeft, shown, Kept, Turned, Resumes, Reads, Ran, read_from, crowded_by}
 use Rattle.plan_parser.specs.declared.turns.Standing.{Standing}
-use Rattle.plan_parser.specs.declared.turns.Turn.{Turn}
-use Rattle.plan_parser.specs.declared.turns.Turn.TheVariants.{On, Stop}
+use Rattle.plan_parser.specs.declared.turns.Halt.{Halt}
+use Rattle.plan_parser.specs.Inner.Reading.{Turn}
+use Rattle.std.specs.Prelude.{Ok, Err}
 use Rattle.plan_parser.specs.declared.Parsed.{Parsed}
 use Rattle.plan_parser.specs.declared.Parsed.TheVariants.{Read, Stopped, Full}
 use Rattle.plan_parser.proofs.FitLaws.{and_second}
@@ -277,7 +278,7 @@ module _ (counts tokens goals₀ values₀ words₀ : List ℕ) (s₀ : Standing
         terms_stay = λ i h. let f = b.fewer in q.terms_stay i (omega arith) ∙ b.kept.terms_stay i h;
       }
 
-      pub run_on : (goals' values' words' : List ℕ) (s' : Standing) → Turned tokens counts goals values words goals' values' words' s (On s')
+      pub run_on : (goals' values' words' : List ℕ) (s' : Standing) → Turned tokens counts goals values words goals' values' words' s (Ok s')
           → Before counts tokens goals₀ values₀ words₀ s₀ goals' values' words' s'
       unfolding resumed shown
       run_on goals' values' words' s' t =
@@ -289,16 +290,16 @@ module _ (counts tokens goals₀ values₀ words₀ : List ℕ) (s₀ : Standing
             state = t.next.state;
             kept = still words' t.kept;
             fewer = omega arith;
-            resumes = record { steps = b.resumes.steps - 1; enough = omega arith; same = turn_same goals' values' words' (On s') t };
+            resumes = record { steps = b.resumes.steps - 1; enough = omega arith; same = turn_same goals' values' words' (Ok s') t };
             goals_stay = t.goals_stay ∙ b.goals_stay;
             values_stay = t.values_stay ∙ b.values_stay;
           }
 
-      pub run_stops : (goals' values' words' : List ℕ) (reason at : ℕ) → Turned tokens counts goals values words goals' values' words' s (Stop reason at)
-          → Ran tokens words₀ words' s₀.left R (Stopped reason at)
+      pub run_stops : (goals' values' words' : List ℕ) (z : Halt) → Turned tokens counts goals values words goals' values' words' s (Err z)
+          → Ran tokens words₀ words' s₀.left R (Stopped z.reason z.at)
       unfolding resumed shown
-      run_stops goals' values' words' reason at t =
-          let p : R ≡ definition.stopped (reason_of reason) (drop at tokens) = turn_same goals' values' words' (Stop reason at) t in
+      run_stops goals' values' words' z t =
+          let p : R ≡ definition.stopped (reason_of z.reason) (drop z.at tokens) = turn_same goals' values' words' (Err z) t in
           record { reads = rw p (refl, refl); kept = still words' t.kept }
 
 -- ---- the start

@@ -14,7 +14,7 @@ use borrow.Author.Tests.{eq-eqb, ne_eqb, lt-ltb, le-ltb}
 use Rattle.plan_packed.specs.Inner.Operands.{tag_of}
 use Rattle.plan_packed.specs.Inner.Steps.{tag_in, tree_in, list_in}
 use Rattle.plan_packed.specs.Inner.Steps as array
-use Rattle.plan_parsing.specs.Goals.{Goal, expect, Value, number, of_expression, of_condition, of_arguments, number_in, value_at}
+use Rattle.plan_parsing.specs.Goals.{Goal, expect, number, of_expression, of_condition, of_arguments, number_in, value_at}
 use Rattle.plan_parsing.specs.Plan.{procedure_goals}
 use Rattle.plan_parser_goals.specs.Inner.Encoded.{goal_of, goals_of, stacked, value_of, term_value, values_of, value_sort}
 use Rattle.plan_parser_goals.specs.Inner.Moves.{pushed}

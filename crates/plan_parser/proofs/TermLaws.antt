@@ -2,13 +2,13 @@
 use Prim.Native.Nat.{ℕ, zero, suc, ◌+◌, ◌-◌, ◌^◌, ◌≤◌, ◌<◌}
 use native.Mathlib.Decide.{dec_lt, ℕ_discrete}
 use native.Mathlib.Omega.{arith}
-use mathlib.Core.Path.{◌≡◌, refl, sym, ap, subst, ◌∙◌}
+use mathlib.Core.Path.{◌≡◌, refl, sym, ap, ◌∙◌}
 use mathlib.Core.Bool.{Bool, true, false, cond}
 use mathlib.Core.List.{List, [], ◌∷◌}
-use lib.Dec.{eqb, ltb}
-use lib.ListN.{length, get_or, set, drop, length-set}
+use lib.Dec.{ltb}
+use lib.ListN.{length, get_or, set, drop}
 use lib.Seq.{get_or-set_same, get_or-set_other}
-use borrow.Author.Tests.{eq-eqb, ne_eqb, lt-ltb, le-ltb}
+use borrow.Author.Tests.{ne_eqb, lt-ltb, le-ltb}
 use Rattle.format.proofs.Ranges.{by_range}
 use Rattle.plan_packed.specs.Syntax.{Expression, Condition, Arguments}
 use Rattle.plan_packed.specs.Format.{width, table, layout, fields_from, Term}
@@ -26,7 +26,7 @@ use Rattle.plan_written.proofs.Words.{Fitting, term_in_word}
 use Rattle.plan_parsing.specs.Goals.{Value, number, of_expression, of_condition, of_arguments, number_in, expression_in, condition_in, arguments_in, operand_counts}
 use Rattle.plan_parsing.specs.Goals.{terms, value_at, made}
 use Rattle.plan_parser_goals.specs.Inner.Encoded.{term_value, value_of, values_of}
-use Rattle.plan_parser_goals.specs.Inner.Moves.{IsTerm, IsBelow, IsOf, operand_kinds, Operands}
+use Rattle.plan_parser_goals.specs.Inner.Moves.{IsBelow, IsOf, operand_kinds, Operands}
 use Rattle.plan_parser.specs.Inner.Stacks.{Entries, operand_at}
 use Rattle.plan_parser.proofs.StackLaws.{values_set}
 

@@ -1,25 +1,21 @@
 -- A turn does the step of the goal on top, and what is left to do becomes less. Assumes nothing.
 use Prim.Native.Nat.{ℕ, zero, suc, ◌+◌, ◌-◌, ◌*◌, ◌≤◌, ◌<◌}
 use native.Mathlib.Omega.{arith}
-use mathlib.Core.Path.{◌≡◌, refl, sym, ap, subst, ◌∙◌}
-use mathlib.Core.Bool.{cond}
-use mathlib.Core.List.{List, [], ◌∷◌, ◌++◌}
-use lib.Dec.{eqb}
+use mathlib.Core.Path.{◌≡◌, refl, sym, subst, ◌∙◌}
+use mathlib.Core.List.{List, ◌∷◌, ◌++◌}
 use lib.ListN.{length, get_or, drop}
 use lib.Seq.{drop-drop}
 use borrow.Author.Tests.{eq-eqb, ne_eqb}
-use Rattle.plan_packed.specs.Inner.Steps.{Ordered}
-use Rattle.plan_parsing.specs.Goals.{Goal, make, Value, made}
-use Rattle.plan_parsing.specs.Parser.{Reason, Step, go, stop, step}
+use Rattle.plan_parsing.specs.Goals.{Goal, make, Value}
+use Rattle.plan_parsing.specs.Parser.{Step, go, stop, step}
 use Rattle.plan_parser_goals.specs.Inner.Encoded.{goal_of, reason_of, goals_of, values_of}
-use Rattle.plan_parser_goals.specs.Inner.Moves.{Operands, operand_kinds, Fits, onto, done, Small, Calls, Sound}
-use Rattle.plan_parser.specs.Inner.Stacks.{Entries, Stacked, Put, Looks}
-use Rattle.plan_parser.specs.Inner.Making.{Makeable, Makes}
-use Rattle.plan_parser.specs.Inner.Reading.{Sized, terms_left, State, Going, NoneLeft, Found, Went, WentWith, shown, Nearer, Kept, Turned}
+use Rattle.plan_parser_goals.specs.Inner.Moves.{Fits, onto, done, Sound}
+use Rattle.plan_parser.specs.Inner.Stacks.{Entries}
+use Rattle.plan_parser.specs.Inner.Making.{Makeable}
+use Rattle.plan_parser.specs.Inner.Reading.{Sized, terms_left, State, Going, NoneLeft, Found, Went, WentWith, shown, Turned}
 use Rattle.plan_parser.specs.declared.turns.Standing.{Standing}
-use Rattle.plan_parser.specs.declared.turns.Turn.TheVariants.{On}
-use Rattle.plan_parser.specs.declared.turns.Turn.TheVariants as turn
-use Rattle.plan_parser_goals.specs.Inner.Moves.{Move, Go, Make, Stop}
+use Rattle.std.specs.Prelude.{Ok, Err}
+use Rattle.plan_parser_goals.specs.Inner.Moves.{Go, Make, Stop}
 use Rattle.plan_parser.proofs.FitLaws.{FitsAfter, step_fits, fits_sound}
 
 -- ---- numbers
@@ -111,7 +107,7 @@ module _ (tokens counts goals values words : List ℕ) (s : Standing) (st : Stat
 
   module _ (taken kept next digits popped value : ℕ) (f : Found tokens counts goals values words s (Go taken kept next digits popped value)) where
     module _ (goals' values' : List ℕ) (s' : Standing) (w : Went goals values s taken kept next digits popped value goals' values' s') where
-      went_says : shown tokens goals' values' words (On s') ≡ onto below (step counts (goal_of code) held terms ahead)
+      went_says : shown tokens goals' values' words (Ok s') ≡ onto below (step counts (goal_of code) held terms ahead)
       unfolding shown done
       went_says =
           rw (w.on_goals.goals_are, w.on_values.values_are words, w.left_is, w.at_is, ← drop-drop taken s.at tokens)
@@ -135,7 +131,7 @@ module _ (tokens counts goals values words : List ℕ) (s : Standing) (st : Stat
           bounds (length tokens) s.at s.goals taken kept next digits s'.at s'.goals there gg.some_goal
           m.kept_taken m.next_taken m.goals_taken w.at_is w.few w.fewer
 
-      pub turned_on : Turned tokens counts goals values words goals' values' words s (On s')
+      pub turned_on : Turned tokens counts goals values words goals' values' words s (Ok s')
       turned_on =
           record {
             says = went_says;
@@ -171,7 +167,7 @@ module _ (tokens counts goals values words : List ℕ) (s : Standing) (st : Stat
     make_does : done (Make k) below held terms ahead ≡ onto below (step counts (goal_of code) held terms ahead)
     make_does = f.calls.does below held terms ahead fit f.looks.seen
 
-    pub turned_none : NoneLeft words s → s.left ≡ 0 → Turned tokens counts goals values words goals values words s (turn.Stop 1000 s.at)
+    pub turned_none : NoneLeft words s → s.left ≡ 0 → Turned tokens counts goals values words goals values words s (Err (record { reason = 1000; at = s.at }))
     unfolding shown done reason_of
     turned_none none e =
         record {
@@ -199,7 +195,7 @@ module _ (tokens counts goals values words : List ℕ) (s : Standing) (st : Stat
       fewer_terms : terms_left words' s'.left ≡ terms - 1
       fewer_terms = let l = w.makes.words_long in let e = w.left_is in omega (arith, d)
 
-      made_says : shown tokens goals values' words' (On s') ≡ onto below (step counts (goal_of code) held terms ahead)
+      made_says : shown tokens goals values' words' (Ok s') ≡ onto below (step counts (goal_of code) held terms ahead)
       unfolding shown done
       made_says =
           rw (w.goals_are, w.makes.values_are, w.at_is, fewer_terms)
@@ -213,7 +209,7 @@ module _ (tokens counts goals values words : List ℕ) (s : Standing) (st : Stat
           (drop s'.at tokens) made_says
           (step_fits below counts f.counts_small terms ahead (goal_of code) held fit)
 
-      pub turned_made : Turned tokens counts goals values words goals values' words' s (On s')
+      pub turned_made : Turned tokens counts goals values words goals values' words' s (Ok s')
       turned_made =
           let p = st.left_few in
           let q = w.left_is in
@@ -248,7 +244,7 @@ module _ (tokens counts goals values words : List ℕ) (s : Standing) (st : Stat
   -- ---- a stop
 
   pub turned_stop : (before reason : ℕ) → Found tokens counts goals values words s (Stop before reason) → Turned tokens counts goals values words goals
-      values words s (turn.Stop reason (s.at + before))
+      values words s (Err (record { reason = reason; at = s.at + before }))
   unfolding shown done
   turned_stop before reason f =
       record {

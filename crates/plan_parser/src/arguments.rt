@@ -19,7 +19,7 @@ pub fn expect(
     ensures { TurnsAny tokens.now goals.old values.old goals.new values.new standing result }
 {
     if stacks::token(tokens, standing.at) == code {
-        return Turn::On(go(goals, values, standing, 1, 0, 0, 0));
+        return Ok(go(goals, values, standing, 1, 0, 0, 0));
     }
     stop(standing, code)
 }
@@ -31,10 +31,10 @@ pub fn binder(tokens: &[u8], goals: &mut [u16], values: &mut [usize], standing: 
 {
     let token = stacks::token(tokens, standing.at);
     if token < 8 {
-        return Turn::On(go(goals, values, standing, 1, 0, 0, 1024 + token));
+        return Ok(go(goals, values, standing, 1, 0, 0, 1024 + token));
     }
     if token == 68 {
-        return Turn::On(go(goals, values, standing, 1, 0, 0, 1039));
+        return Ok(go(goals, values, standing, 1, 0, 0, 1039));
     }
     stop(standing, 192)
 }
@@ -52,7 +52,7 @@ pub fn count(
 {
     let token = stacks::token(tokens, standing.at);
     if token < 9 {
-        return Turn::On(go(goals, values, standing, 1, 0, 0, 1024 + token));
+        return Ok(go(goals, values, standing, 1, 0, 0, 1024 + token));
     }
     stop(standing, code)
 }
@@ -78,9 +78,9 @@ pub fn procedure(
     }
     let parameters = wide(counts[token]);
     if parameters == 0 {
-        return Turn::On(go(goals, values, standing, 1, 145, 63551, 1024 + token));
+        return Ok(go(goals, values, standing, 1, 145, 63551, 1024 + token));
     }
-    Turn::On(go_on(
+    Ok(go_on(
         goals,
         values,
         standing,
@@ -107,12 +107,12 @@ pub fn further(
     let token = stacks::token(tokens, standing.at);
     if code == 640 {
         if token == 63 {
-            return Turn::On(go(goals, values, standing, 1, 145, 0, 0));
+            return Ok(go(goals, values, standing, 1, 145, 0, 0));
         }
         return stop(standing, code);
     }
     if token == 64 {
-        return Turn::On(go_on(goals, values, standing, 1, 144, code - 1, 161, 0, 0));
+        return Ok(go_on(goals, values, standing, 1, 144, code - 1, 161, 0, 0));
     }
     stop(standing, code)
 }
@@ -131,7 +131,7 @@ pub fn fields(
     let token = stacks::token(tokens, standing.at);
     let least = (code - 256) % 32;
     if token == 63 {
-        return Turn::On(go(goals, values, standing, 1, 0, 0, 0));
+        return Ok(go(goals, values, standing, 1, 0, 0, 0));
     }
     if code < 288 {
         return stop(standing, code);
@@ -142,8 +142,8 @@ pub fn fields(
     if 31 < token {
         return stop(standing, code);
     }
-    let mask = stacks::number(stacks::last(&*values, standing.values));
+    let mask = stacks::number(stacks::last(values, standing.values));
     let kept = code - 32 - least + token;
     let value = 1024 + (mask + (1usize << (31 - token))) % 4294967296;
-    Turn::On(go_on(goals, values, standing, 1, kept, 0, 0, 1, value))
+    Ok(go_on(goals, values, standing, 1, kept, 0, 0, 1, value))
 }

@@ -3,7 +3,7 @@ ghost use Rattle.std.specs.Prelude.{◌≡◌, ◌<◌, ◌≤◌, get_or};
 ghost use Rattle.plan_parser.specs.Inner.Turning.{Ready, Turns, TurnsBehind, Ending};
 
 use crate::stacks;
-use crate::turns::{Standing, Turn, go, stop};
+use crate::turns::{Halt, Standing, Turn, go, stop};
 
 // The stop where there is no field behind `.`.
 const NO_FIELD: usize = 1002;
@@ -22,24 +22,24 @@ fn dot(
 {
     let field = stacks::token(tokens, standing.at + 1);
     if field == 0 {
-        return Turn::Stop {
+        return Err(Halt {
             reason: NO_FIELD,
             at: standing.at + 1,
-        };
+        });
     }
     if 31 < field {
-        return Turn::Stop {
+        return Err(Halt {
             reason: NO_FIELD,
             at: standing.at + 1,
-        };
+        });
     }
     if code > 178 {
-        return Turn::On(go(goals, values, standing, 2, code, 131, 1024 + field));
+        return Ok(go(goals, values, standing, 2, code, 131, 1024 + field));
     }
     if stacks::token(tokens, standing.at + 2) == 67 {
-        return Turn::On(go(goals, values, standing, 3, code, 164996, 1024 + field));
+        return Ok(go(goals, values, standing, 3, code, 164996, 1024 + field));
     }
-    Turn::On(go(goals, values, standing, 2, code, 131, 1024 + field))
+    Ok(go(goals, values, standing, 2, code, 131, 1024 + field))
 }
 
 // Nothing follows a value, which is of the sort that is asked for, or not.
@@ -55,10 +55,10 @@ fn end(
 {
     let asked = (code - 176) % 3;
     if asked == 0 {
-        return Turn::On(go(goals, values, standing, 0, 0, 0, 0));
+        return Ok(go(goals, values, standing, 0, 0, 0, 0));
     }
     if asked == sort {
-        return Turn::On(go(goals, values, standing, 0, 0, 0, 0));
+        return Ok(go(goals, values, standing, 0, 0, 0, 0));
     }
     stop(standing, code)
 }
@@ -87,7 +87,7 @@ fn behind_expression(
     if (code - 176) % 3 == 1 {
         return end(goals, values, standing, code, 1);
     }
-    Turn::On(go(goals, values, standing, 1, code, 171151, 0))
+    Ok(go(goals, values, standing, 1, code, 171151, 0))
 }
 
 // What may follow a condition.
@@ -107,7 +107,7 @@ fn behind_condition(
     if 178 < code {
         return end(goals, values, standing, code, 2);
     }
-    Turn::On(go(goals, values, standing, 1, code, 166030, 0))
+    Ok(go(goals, values, standing, 1, code, 166030, 0))
 }
 
 // What may follow an operand.
@@ -123,7 +123,7 @@ pub fn more(
     ensures { Turns tokens.now goals.old values.old words.now goals.new
         values.new words.now standing result }
 {
-    let sort = stacks::sort(words, stacks::last(&*values, standing.values));
+    let sort = stacks::sort(words, stacks::last(values, standing.values));
     if sort == 1 {
         return behind_expression(tokens, goals, values, standing, code);
     }

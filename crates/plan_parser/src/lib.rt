@@ -16,7 +16,7 @@ ghost use Rattle.plan_parsing.specs.Parser.{parse};
 ghost use Rattle.plan_parsing.specs.Plan.{procedure_goals};
 ghost use Rattle.plan_parser.specs.Inner.Reading.{Sized, terms_left, State, Ran, read_from, crowded_by};
 
-use turns::{Standing, Turn};
+use turns::Standing;
 
 // An expression: its root, the parameters of its procedure, the terms that there is room for, and the next token's place. Or why reading stopped, and
 // before which token. Or the arrays are too short for it, and not for every text.
@@ -48,8 +48,8 @@ fn ended(values: &[usize], standing: Standing) -> Parsed
     let root = values[count - 1];
     let parameters = values[count - 2] - 1024;
     Parsed::Read {
-        root: root,
-        parameters: parameters,
+        root,
+        parameters,
         left: standing.left,
         at: standing.at,
     }
@@ -64,7 +64,7 @@ fn crowded(words: &[usize], at: usize) -> Parsed
     }
     Parsed::Stopped {
         reason: TOO_DEEP,
-        at: at,
+        at,
     }
 }
 
@@ -72,10 +72,7 @@ fn crowded(words: &[usize], at: usize) -> Parsed
 fn is_full(words: &[usize], left: usize) -> bool
     ensures { result ≡ (eqb left 0 && ltb (length words.now) 1024) }
 {
-    if left == 0 {
-        return words.len() < 1024;
-    }
-    false
+    left == 0 && words.len() < 1024
 }
 
 // Goal after goal.
@@ -92,38 +89,27 @@ fn run(
         (read_from counts.now tokens.now goals.old values.old words.old start) result }
 {
     let mut standing = start;
-    loop {
-        if standing.goals == 0 {
-            return ended(&*values, standing);
-        }
+    while standing.goals != 0 {
         if goals.len() - 8 < standing.goals {
-            return crowded(&*words, standing.at);
+            return crowded(words, standing.at);
         }
         if values.len() - 8 < standing.values {
-            return crowded(&*words, standing.at);
+            return crowded(words, standing.at);
         }
-        if is_full(&*words, standing.left) {
+        if is_full(words, standing.left) {
             return Parsed::Full;
         }
-        match turns::take(
-            tokens,
-            counts,
-            &mut *goals,
-            &mut *values,
-            &mut *words,
-            standing,
-        ) {
-            Turn::On(next) => {
-                standing = next;
-            }
-            Turn::Stop { reason, at } => {
+        match turns::take(tokens, counts, goals, values, words, standing) {
+            Ok(next) => standing = next,
+            Err(stop) => {
                 return Parsed::Stopped {
-                    reason: reason,
-                    at: at,
+                    reason: stop.reason,
+                    at: stop.at,
                 };
             }
         }
     }
+    ended(values, standing)
 }
 
 // The procedure of this number, from a token on: main is an expression, and any other has its heading before it. Goals and values are lent room.
@@ -143,19 +129,12 @@ pub fn procedure(
         (parse counts.now (procedure_goals number) (value.number 0 ∷ []) (terms_left words.old left) (drop at tokens.now)) result }
 {
     values[0] = 1024;
-    let top = stacks::begin(&mut *goals, number);
+    let top = stacks::begin(goals, number);
     let start = Standing {
-        at: at,
+        at,
         goals: top,
         values: 1,
-        left: left,
+        left,
     };
-    run(
-        tokens,
-        counts,
-        &mut *goals,
-        &mut *values,
-        &mut *words,
-        start,
-    )
+    run(tokens, counts, goals, values, words, start)
 }

@@ -72,7 +72,7 @@ fn word(
     }
     let taken = taken_by(form);
     let value = value_of(form);
-    Turn::On(go(
+    Ok(go(
         goals,
         values,
         standing,
@@ -99,7 +99,7 @@ pub fn operand(
         return stop(standing, code);
     }
     if token < 40 {
-        return Turn::On(go(goals, values, standing, 1, code + 16, 129, 992 + token));
+        return Ok(go(goals, values, standing, 1, code + 16, 129, 992 + token));
     }
     if token < 49 {
         return stop(standing, code);
@@ -111,7 +111,7 @@ pub fn operand(
         return stop(standing, code);
     }
     if (code - 160) % 3 == 1 {
-        return Turn::On(go(goals, values, standing, 1, code + 16, 164927, 0));
+        return Ok(go(goals, values, standing, 1, code + 16, 164927, 0));
     }
-    Turn::On(go(goals, values, standing, 1, code + 16, 163903, 0))
+    Ok(go(goals, values, standing, 1, code + 16, 163903, 0))
 }

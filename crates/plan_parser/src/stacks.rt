@@ -23,12 +23,12 @@ fn stack_digits(goals: &mut [u16], top: usize, digits: usize) -> usize
     requires { (top + 6 < length goals.old) × (length goals.old ≤ 8408) }
     ensures { Stacked (unpacked digits) goals.old top goals.new result × (result ≤ top + 6) × (result ≤ top + 6 * digits) }
 {
-    let first = stack(&mut *goals, top, digits % 1024);
-    let second = stack(&mut *goals, first, digits / 1024 % 1024);
-    let third = stack(&mut *goals, second, digits / 1048576 % 1024);
-    let fourth = stack(&mut *goals, third, digits / 1073741824 % 1024);
-    let fifth = stack(&mut *goals, fourth, digits / 1099511627776 % 1024);
-    stack(&mut *goals, fifth, digits / 1125899906842624 % 1024)
+    let first = stack(goals, top, digits % 1024);
+    let second = stack(goals, first, digits / 1024 % 1024);
+    let third = stack(goals, second, digits / 1048576 % 1024);
+    let fourth = stack(goals, third, digits / 1073741824 % 1024);
+    let fifth = stack(goals, fourth, digits / 1099511627776 % 1024);
+    stack(goals, fifth, digits / 1125899906842624 % 1024)
 }
 
 // The goals of a move on the others.
@@ -37,9 +37,9 @@ pub fn stack_all(goals: &mut [u16], top: usize, kept: usize, next: usize, digits
     ensures stacked { Stacked (λ gs. unpacked digits (stacked next (stacked kept gs))) goals.old top goals.new result }
     ensures upper_bound { (result ≤ top + 8) × (result ≤ top + kept + next + 6 * digits) }
 {
-    let first = stack(&mut *goals, top, kept);
-    let second = stack(&mut *goals, first, next);
-    stack_digits(&mut *goals, second, digits)
+    let first = stack(goals, top, kept);
+    let second = stack(goals, first, next);
+    stack_digits(goals, second, digits)
 }
 
 fn half(code: u16) -> usize
@@ -61,16 +61,16 @@ pub fn begin(goals: &mut [u16], number: usize) -> usize
     requires { (number < 32) × (16 ≤ length goals.old) × (length goals.old ≤ 8408) }
     ensures { Stacked (λ gs. procedure_goals number ++ gs) goals.old 0 goals.new result × (result ≤ 7) }
 {
-    let body = stack(&mut *goals, 0, 161);
+    let body = stack(goals, 0, 161);
     if number == 0 {
         return body;
     }
-    let equals = stack(&mut *goals, body, 66);
-    let closing = stack(&mut *goals, equals, 63);
-    let count = stack(&mut *goals, closing, 194);
-    let opening = stack(&mut *goals, count, 62);
-    let own = stack(&mut *goals, opening, number);
-    stack(&mut *goals, own, 42)
+    let equals = stack(goals, body, 66);
+    let closing = stack(goals, equals, 63);
+    let count = stack(goals, closing, 194);
+    let opening = stack(goals, count, 62);
+    let own = stack(goals, opening, number);
+    stack(goals, own, 42)
 }
 
 // A value in place of so many; 0 is none.

@@ -51,9 +51,9 @@ pub fn make(values: &mut [usize], words: &mut [usize], top: usize, left: usize, 
     ensures { Makes words.old values.old top left tag words.new values.new result }
 {
     let count = operand_count(tag);
-    let first = stacks::operand(&*values, top, count);
-    let second = stacks::operand(&*values, top, less(count, 1));
-    let third = stacks::operand(&*values, top, less(count, 2));
+    let first = stacks::operand(values, top, count);
+    let second = stacks::operand(values, top, less(count, 1));
+    let third = stacks::operand(values, top, less(count, 2));
     let place = left - 1;
     words[place] = plan_term_making::word(tag, first, second, third);
     let rest = top - count;

@@ -1,5 +1,5 @@
 // A turn: the goal on top is taken, and done.
-ghost use Rattle.std.specs.Prelude.{◌≡◌, ◌<◌, ◌≤◌};
+ghost use Rattle.std.specs.Prelude.{Err, ◌≡◌, ◌<◌, ◌≤◌};
 ghost use Rattle.plan_parser.specs.Inner.Making.{Makeable};
 ghost use Rattle.plan_parser.specs.Inner.Reading.{State, Going, NoneLeft, Room, Went, WentWith, Turned};
 ghost use Rattle.plan_parser.specs.Inner.Stacks.{Entries};
@@ -16,12 +16,15 @@ pub struct Standing {
     pub left: usize,
 }
 
-// Reading goes on, or stops before the token at a place.
+// Why reading stops, and before the token at which place.
 #[derive(Clone, Copy)]
-pub enum Turn {
-    On(Standing),
-    Stop { reason: usize, at: usize },
+pub struct Halt {
+    pub reason: usize,
+    pub at: usize,
 }
+
+// Where reading goes on, or why it stops.
+pub type Turn = Result<Standing, Halt>;
 
 // The goal on top gives way to those of a move.
 pub fn go_on(
@@ -38,8 +41,8 @@ pub fn go_on(
     requires { Room goals.old values.old standing taken kept next popped value }
     ensures { Went goals.old values.old standing taken kept next digits popped value goals.new values.new result }
 {
-    let above = stacks::stack_all(&mut *goals, standing.goals - 1, kept, next, digits);
-    let held = stacks::put(&mut *values, standing.values, popped, value);
+    let above = stacks::stack_all(goals, standing.goals - 1, kept, next, digits);
+    let held = stacks::put(values, standing.values, popped, value);
     Standing {
         at: standing.at + taken,
         goals: above,
@@ -53,13 +56,7 @@ fn make_on(values: &mut [usize], words: &mut [usize], standing: Standing, tag: u
     requires { Makeable words.old values.old standing.values standing.left tag × (0 < standing.goals) }
     ensures { WentWith words.old values.old standing tag words.new values.new result }
 {
-    let held = terms::make(
-        &mut *values,
-        &mut *words,
-        standing.values,
-        standing.left,
-        tag,
-    );
+    let held = terms::make(values, words, standing.values, standing.left, tag);
     Standing {
         at: standing.at,
         goals: standing.goals - 1,
@@ -86,12 +83,12 @@ pub fn go(
 
 // What was to be read is not there.
 pub fn stop(standing: Standing, code: usize) -> Turn
-    ensures { result ≡ Turn.Stop code standing.at }
+    ensures { result ≡ Err (record { reason = code; at = standing.at }) }
 {
-    Turn::Stop {
+    Err(Halt {
         reason: code,
         at: standing.at,
-    }
+    })
 }
 
 // The stop where a plan has no more terms.
@@ -105,7 +102,7 @@ fn make(values: &mut [usize], words: &mut [usize], standing: Standing, tag: usiz
     if standing.left == 0 {
         return stop(standing, NO_TERMS);
     }
-    Turn::On(make_on(values, words, standing, tag))
+    Ok(make_on(values, words, standing, tag))
 }
 
 // A slot, a procedure, a count, fields, and what stands behind an argument.
@@ -149,7 +146,7 @@ pub fn take(
     ensures { Turned tokens.now counts.now goals.old values.old words.old
         goals.new values.new words.new standing result }
 {
-    let code = stacks::goal(&*goals, standing.goals - 1);
+    let code = stacks::goal(goals, standing.goals - 1);
     if code < 128 {
         return arguments::expect(tokens, goals, values, standing, code);
     }
@@ -160,7 +157,7 @@ pub fn take(
         return operands::operand(tokens, goals, values, standing, code);
     }
     if code < 192 {
-        return followers::more(tokens, goals, values, &*words, standing, code);
+        return followers::more(tokens, goals, values, words, standing, code);
     }
     rest(tokens, counts, goals, values, standing, code)
 }

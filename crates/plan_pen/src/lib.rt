@@ -19,7 +19,7 @@ pub struct Pen {
     pub last: u8,
 }
 
-// A line feed or none, and spaces.
+// What stands before a token: a line feed or none, and spaces.
 #[derive(Clone, Copy)]
 pub struct Gap {
     pub spaces: usize,
@@ -28,109 +28,117 @@ pub struct Gap {
 
 const TEXT_END: u8 = 69;
 
-// No token is before.
-pub fn start() -> Pen
-    ensures { pen_of result ≡ start }
-{
-    Pen {
-        column: 0,
-        depth: 0,
-        last: TEXT_END,
-    }
-}
-
-// How deep a token is that may end something.
-fn depth_before(looks: &Looks, pen: Pen, token: u8) -> usize
-    requires { (looks.now ≡ look_rows) × (token < text_end) }
-    ensures { result ≡ depth_before (pen_of pen) token }
-{
-    if looks::ends(looks, token) {
-        if pen.depth == 0 {
-            return 0;
+impl Gap {
+    // How many bytes it has.
+    pub fn length(self) -> usize
+        requires { self.spaces ≤ 40 }
+        ensures { result ≡ length (gap_bytes self) }
+    {
+        if self.feed {
+            return self.spaces + 1;
         }
-        return pen.depth - 1;
+        self.spaces
     }
-    pen.depth
 }
 
-// How deep what follows is.
-fn depth_after(looks: &Looks, pen: Pen, token: u8) -> usize
-    requires { (looks.now ≡ look_rows) × (token < text_end) × (pen.depth < 16384) }
-    ensures { result ≡ depth_after (pen_of pen) token }
-{
-    let depth = depth_before(looks, pen, token);
-    if looks::begins(looks, token) {
-        return depth + 1;
+impl Pen {
+    // No token is before.
+    pub fn start() -> Pen
+        ensures { pen_of result ≡ start }
+    {
+        Pen {
+            column: 0,
+            depth: 0,
+            last: TEXT_END,
+        }
     }
-    depth
-}
 
-// How far a line is indented that begins with a token.
-fn indentation(looks: &Looks, pen: Pen, token: u8) -> usize
-    requires { (looks.now ≡ look_rows) × (token < text_end) }
-    ensures { result ≡ indentation (pen_of pen) token }
-{
-    let depth = depth_before(looks, pen, token);
-    if depth < 20 {
-        return 2 * depth;
+    // How deep a token is that may end something.
+    fn depth_before(self, looks: &Looks, token: u8) -> usize
+        requires { token < text_end }
+        ensures { result ≡ depth_before (pen_of self) token }
+    {
+        if looks.ends(token) {
+            return self.depth.saturating_sub(1);
+        }
+        self.depth
     }
-    40
-}
 
-// What stands before a token whose text is so long.
-pub fn gap_before(looks: &Looks, pen: Pen, token: u8, width: usize) -> Gap
-    requires looks_value { (looks.now ≡ look_rows) × (token < text_end) × (pen.last ≤ text_end) }
-    requires width_value { (width ≡ length (text_of token)) × (width < 10) × (pen.column < 100) }
-    ensures { Parts (pen_of pen) token result }
-{
-    let between = looks::between(looks, pen.last, token);
-    if (between / 8 != 0) | (98 < pen.column + width) {
-        return Gap {
-            spaces: indentation(looks, pen, token),
-            feed: true,
-        };
+    // How deep what follows is.
+    fn depth_after(self, looks: &Looks, token: u8) -> usize
+        requires { (token < text_end) × (self.depth < 16384) }
+        ensures { result ≡ depth_after (pen_of self) token }
+    {
+        let depth = self.depth_before(looks, token);
+        if looks.begins(token) {
+            return depth + 1;
+        }
+        depth
     }
-    if between % 8 == 0 {
-        return Gap {
-            spaces: 1,
+
+    // How far a line is indented that begins with a token.
+    fn indentation(self, looks: &Looks, token: u8) -> usize
+        requires { token < text_end }
+        ensures { result ≡ indentation (pen_of self) token }
+    {
+        let depth = self.depth_before(looks, token);
+        if depth < 20 {
+            return 2 * depth;
+        }
+        40
+    }
+
+    // What stands before a token whose text is so long.
+    fn gap_before(self, looks: &Looks, token: u8, width: usize) -> Gap
+        requires token_value { (token < text_end) × (self.last ≤ text_end) }
+        requires width_value { (width ≡ length (text_of token)) × (width < 10) × (self.column < 100) }
+        ensures { Parts (pen_of self) token result }
+    {
+        let between = looks.between(self.last, token);
+        if (between / 8 != 0) | (98 < self.column + width) {
+            return Gap {
+                spaces: self.indentation(looks, token),
+                feed: true,
+            };
+        }
+        if between % 8 == 0 {
+            return Gap {
+                spaces: 1,
+                feed: false,
+            };
+        }
+        Gap {
+            spaces: 0,
             feed: false,
-        };
+        }
     }
-    Gap {
-        spaces: 0,
-        feed: false,
-    }
-}
 
-// How many bytes a gap has.
-pub fn length_of(gap: Gap) -> usize
-    requires { gap.spaces ≤ 40 }
-    ensures { result ≡ length (gap_bytes gap) }
-{
-    if gap.feed {
-        return gap.spaces + 1;
-    }
-    gap.spaces
-}
-
-// Where writing stands behind a token.
-pub fn after(looks: &Looks, pen: Pen, token: u8, width: usize, gap: Gap) -> Pen
-    requires looks_value { (looks.now ≡ look_rows) × (token < text_end) }
-    requires width_value { (width ≡ length (text_of token)) × (width < 10) × (pen.column < 100) × (pen.depth < 16384) }
-    requires parts { Parts (pen_of pen) token gap }
-    ensures { pen_of result ≡ pen_after (pen_of pen) token }
-{
-    let depth = depth_after(looks, pen, token);
-    if gap.feed {
-        return Pen {
-            column: gap.spaces + width,
-            depth: depth,
+    // Where writing stands behind a token and its gap.
+    fn after(self, looks: &Looks, token: u8, width: usize, gap: Gap) -> Pen
+        requires token_value { token < text_end }
+        requires width_value { (width ≡ length (text_of token)) × (width < 10) × (self.column < 100) × (self.depth < 16384) }
+        requires parts { Parts (pen_of self) token gap }
+        ensures { pen_of result ≡ pen_after (pen_of self) token }
+    {
+        let depth = self.depth_after(looks, token);
+        let line = if gap.feed { 0 } else { self.column };
+        Pen {
+            column: line + gap.spaces + width,
+            depth,
             last: token,
-        };
+        }
     }
-    Pen {
-        column: pen.column + gap.spaces + width,
-        depth: depth,
-        last: token,
+
+    // Goes on behind a token whose text is so long, and says what stands before the token.
+    pub fn pass(&mut self, looks: &Looks, token: u8, width: usize) -> Gap
+        requires token_value { (token < text_end) × (self.old.last ≤ text_end) }
+        requires width_value { (width ≡ length (text_of token)) × (width < 10) }
+        requires place { (self.old.column < 100) × (self.old.depth < 16384) }
+        ensures gap { Parts (pen_of self.old) token result }
+        ensures after { pen_of self.new ≡ pen_after (pen_of self.old) token }
+    {
+        let gap = self.gap_before(looks, token, width);
+        *self = self.after(looks, token, width, gap);
+        gap
     }
 }

@@ -1,18 +1,31 @@
 // What each token says of the gap behind it and of the one before it, as sets of bits: the gap between two tokens goes by the bits that both have.
-ghost use Rattle.std.specs.Prelude.{◌≡◌, not, ◌/◌, ◌%◌, ◌≤◌, ◌<◌, eqb};
+ghost use Rattle.std.specs.Prelude.{◌≡◌, ℕ, not, ◌/◌, ◌%◌, ◌≤◌, ◌<◌, eqb, List};
 ghost use Rattle.plan_notation.specs.Tokens.{text_end};
 ghost use Rattle.plan_notation.specs.Layout.{apart, breaks};
 ghost use Rattle.plan_pen.specs.Inner.Looks.{look_rows, begins, ends};
 
 use byte_numbers::wide;
+use std::marker::Model;
 
-pub type Looks = [[u8; 2]; 70];
+// The looks of all tokens. They are always those of the definition.
+#[derive(Drop)]
+pub struct Looks {
+    rows: [[u8; 2]; 70],
+}
+
+impl Model for Looks {
+    ghost Value = { List (List ℕ) };
+
+    ghost view = { λ looks. looks.rows };
+
+    ghost invariant = { λ looks. looks.rows ≡ look_rows };
+}
 
 // Of each token, and of none at the start: what it says behind it and before it. A bit of 1, 2 or 4 that both have is no space, one of 8, 16 or 32 a new
 // line: 1 is that of every token before `)`, `,` and `.`, 2 that of `(`, `.` and the start before any, 4 that of `new` before `(`, 8 that of every token
 // before `volatile` and `procedure`, 16 that of `in` and `do` before any, 32 that of a number before what begins an expression. Before a token, 64 is that
 // it ends something, 128 that it begins something.
-const LOOKS: Looks = [
+const LOOKS: [[u8; 2]; 70] = [
     [41, 18], // 0
     [41, 18], // 1
     [41, 18], // 2
@@ -89,34 +102,33 @@ const LOOKS: Looks = [
 pub fn all() -> Looks
     ensures { result ≡ look_rows }
 {
-    LOOKS
+    Looks { rows: LOOKS }
 }
 
-// The bits of the gap between two tokens.
-pub fn between(looks: &Looks, before: u8, token: u8) -> u8
-    requires looks_value { looks.now ≡ look_rows }
-    requires before_le_text_end { (before ≤ text_end) × (token < text_end) }
-    ensures { (eqb (result % 8) 0 ≡ apart before token) × (not (eqb (result / 8) 0) ≡ breaks before token) }
-{
-    let behind = looks[wide(before)][0];
-    let ahead = looks[wide(token)][1];
-    behind & (ahead % 64)
-}
+impl Looks {
+    // The bits of the gap between two tokens.
+    pub fn between(&self, before: u8, token: u8) -> u8
+        requires { (before ≤ text_end) × (token < text_end) }
+        ensures { (eqb (result % 8) 0 ≡ apart before token) × (not (eqb (result / 8) 0) ≡ breaks before token) }
+    {
+        let behind = self.rows[wide(before)][0];
+        let ahead = self.rows[wide(token)][1];
+        behind & (ahead % 64)
+    }
 
-// A token ends something.
-pub fn ends(looks: &Looks, token: u8) -> bool
-    requires looks_value { looks.now ≡ look_rows }
-    requires token_lt_text_end { token < text_end }
-    ensures { result ≡ ends token }
-{
-    looks[wide(token)][1] / 64 % 2 == 1
-}
+    // A token ends something.
+    pub fn ends(&self, token: u8) -> bool
+        requires { token < text_end }
+        ensures { result ≡ ends token }
+    {
+        self.rows[wide(token)][1] / 64 % 2 == 1
+    }
 
-// It begins something.
-pub fn begins(looks: &Looks, token: u8) -> bool
-    requires looks_value { looks.now ≡ look_rows }
-    requires token_lt_text_end { token < text_end }
-    ensures { result ≡ begins token }
-{
-    128 <= looks[wide(token)][1]
+    // It begins something.
+    pub fn begins(&self, token: u8) -> bool
+        requires { token < text_end }
+        ensures { result ≡ begins token }
+    {
+        128 <= self.rows[wide(token)][1]
+    }
 }

@@ -1,17 +1,15 @@
 -- The version and the volatile fields, read. Assumes nothing.
-use Prim.Native.Nat.{ℕ, zero, suc, ◌+◌, ◌^◌, ◌≤◌, ◌<◌}
+use Prim.Native.Nat.{ℕ, ◌+◌, ◌^◌, ◌≤◌, ◌<◌}
 use native.Mathlib.Decide.{dec_lt}
 use native.Mathlib.Omega.{arith}
 use mathlib.Core.Path.{◌≡◌, refl, sym, ap, ap₂, ◌∙◌}
-use mathlib.Core.Bool.{cond}
-use mathlib.Core.List.{List, []}
-use lib.Dec.{eqb, ltb}
-use lib.ListN.{length, get_or, drop}
+use mathlib.Core.List.{List}
+use lib.ListN.{length, drop}
 use lib.Seq.{get_or-drop, drop-drop}
-use borrow.Author.Tests.{eq-eqb, ne_eqb, lt-ltb, le-ltb}
+use borrow.Author.Tests.{ne_eqb, lt-ltb, le-ltb}
 use Rattle.plan_notation.specs.Tokens.{version_word, volatile_word, text_end}
 use Rattle.plan_parsing.specs.Parser.{ahead}
-use Rattle.plan_parsing.specs.Plan.{Reading, fault, Fault, counts_of, procedures_by, mask_from, behind_fields, with_volatiles, read_plan}
+use Rattle.plan_parsing.specs.Plan.{counts_of, procedures_by, mask_from, behind_fields, with_volatiles, read_plan}
 use Rattle.plan_reader.specs.declared.Heading.{Heading}
 use Rattle.plan_reader.specs.Inner.Reading.{none, Fielded, Marked, Headed}
 use Rattle.plan_reader.proofs.VolatileFields.{beyond}

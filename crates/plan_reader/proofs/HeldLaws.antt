@@ -1,13 +1,12 @@
 -- Procedures that are held in arrays: one more, and that they stay. Assumes nothing.
 use Prim.Native.Nat.{ℕ, zero, suc, ◌+◌, ◌-◌, ◌≤◌, ◌<◌}
 use native.Mathlib.Omega.{arith}
-use mathlib.Core.Path.{◌≡◌, refl, sym, ap, ap₂, ◌∙◌}
+use mathlib.Core.Path.{◌≡◌, refl, ap, ap₂, ◌∙◌}
 use mathlib.Core.List.{List, [], ◌∷◌, ◌++◌}
-use lib.ListN.{length, get_or, set}
-use lib.Seq.{get_or-set_same, get_or-set_other}
-use Rattle.plan_packed.specs.Syntax.{Expression, Condition, Arguments, Procedure}
-use Rattle.plan_packed.specs.Trees.{Node, node_of, expression_of, condition_of, arguments_of, expression_at, condition_at, arguments_at}
-use Rattle.plan_packed.specs.Inner.Steps.{Ordered, NamesLater, term_in, node_in, tree_in}
+use lib.ListN.{get_or}
+use Rattle.plan_packed.specs.Syntax.{Expression, Procedure}
+use Rattle.plan_packed.specs.Trees.{node_of, expression_of, condition_of, arguments_of, expression_at, condition_at, arguments_at}
+use Rattle.plan_packed.specs.Inner.Steps.{Ordered, term_in, node_in, tree_in}
 use Rattle.plan_packed.proofs.TreeLaws.{expression_cong, condition_cong, arguments_cong}
 use Rattle.plan_written.specs.Terms.{terms_of, size}
 use Rattle.plan_written.specs.Written.{size_of_all}

@@ -2,15 +2,14 @@
 use Prim.Native.Nat.{ℕ, zero, suc, ◌+◌, ◌-◌, ◌≤◌, ◌<◌}
 use native.Mathlib.Decide.{dec_lt}
 use native.Mathlib.Omega.{arith}
-use mathlib.Core.Path.{◌≡◌, refl, sym, ap, ap₂, subst, ◌∙◌}
-use mathlib.Core.Bool.{Bool, true, false, cond, not}
+use mathlib.Core.Path.{◌≡◌, refl, sym, ap, ap₂, ◌∙◌}
+use mathlib.Core.Bool.{true, false}
 use mathlib.Core.List.{List, [], ◌∷◌, ◌++◌}
-use lib.Dec.{eqb, ltb}
+use lib.Dec.{ltb}
 use lib.ListN.{length, get_or, drop, set, length-set}
 use lib.Seq.{get_or-set_same, get_or-set_other}
-use borrow.Author.Tests.{eq-eqb, ne_eqb}
-use Rattle.format.specs.Version.{version_of}
-use Rattle.plan_packed.specs.Syntax.{Expression, Procedure, Program}
+use borrow.Author.Tests.{ne_eqb}
+use Rattle.plan_packed.specs.Syntax.{Expression, Procedure}
 use Rattle.plan_packed.specs.Slots.{closed}
 use Rattle.plan_packed.specs.Inner.Steps.{Ordered, tree_in}
 use Rattle.plan_written.specs.Terms.{terms_of, size}

@@ -1,12 +1,9 @@
 -- A procedure, by what the parser gives. Assumes nothing.
-use Prim.Native.Nat.{ℕ, suc, ◌+◌, ◌-◌, ◌≤◌, ◌<◌}
-use native.Mathlib.Omega.{arith}
+use Prim.Native.Nat.{ℕ, suc, ◌≤◌, ◌<◌}
 use mathlib.Core.Path.{◌≡◌, refl, sym, ap, subst, ◌∙◌}
-use mathlib.Core.Bool.{Bool, true, false, cond, true≢false}
 use mathlib.Core.List.{List, [], ◌∷◌}
 use lib.Dec.{ltb}
-use lib.ListN.{length, get_or, drop, set}
-use Rattle.plan_packed.specs.Syntax.{Expression}
+use lib.ListN.{length, drop}
 use Rattle.plan_packed.specs.Slots.{closed}
 use Rattle.plan_packed.specs.Inner.Steps.{tree_in}
 use Rattle.plan_notation.specs.Tokens.{text_end}
@@ -19,9 +16,13 @@ use Rattle.plan_parser.specs.Inner.Reading as parser
 use Rattle.plan_parser.specs.Inner.Reading.{Finished, terms_left}
 use Rattle.plan_parser.specs.declared.Parsed.{Parsed}
 use Rattle.plan_parser.specs.declared.Parsed.TheVariants.{Read, Stopped, Full}
-use Rattle.plan_reader.specs.declared.Next.{Next}
-use Rattle.plan_reader.specs.declared.Next.TheVariants.{On, Last, Stop, Crowded}
-use Rattle.plan_reader.specs.Inner.Reading.{fault_of, Faulty, PlanHeld, Going, GoesAs, Goes, Kept, KeptAs, Keeps}
+use Rattle.std.specs.declared.ops.ControlFlow.{ControlFlow}
+use Rattle.std.specs.declared.ops.ControlFlow.TheVariants.{Continue, Break}
+use Rattle.plan_reader.specs.declared.Heading.{Heading}
+use Rattle.plan_reader.specs.declared.Outcome.{Outcome}
+use Rattle.plan_reader.specs.declared.Outcome.TheVariants as outcome
+use Rattle.plan_reader.specs.declared.Rest.{Rest}
+use Rattle.plan_reader.specs.Inner.Reading.{fault_of, Faulty, PlanHeld, ReadBy, ReadAs, Going, GoesAs, Goes, Kept, EndsAs, KeptAs, Keeps}
 use Rattle.plan_reader.proofs.Headings.{here}
 use Rattle.plan_reader.proofs.OneMore.{OneMore, stops, opens, sized_more, there_more, lasts, goes_on_lem}
 
@@ -123,29 +124,32 @@ module _ {ts counts : List ℕ} {v m : ℕ} {words roots params words' : List �
       (goes_on_lem g h t.values t.terms t.rest result_is one_more_lem at' (sym closed_is ∙ q.bound) t.finished.rest_is t.finished.inside
       (λ z. f (sym next_is ∙ z)))
 
-  kept_as : (roots' params' : List ℕ) (r : Next) → KeptAs ts p at words' roots params roots' params' root k left' at' r
-      → GoesAs ts v m words' roots' params' p r
-  unfolding fault_of
-  kept_as roots' params' (Stop kind reason stop) q = opens g h t.values t.terms t.rest result_is (sym closed_is ∙ q.0) ∙ sym (rw (q.1, q.2) refl)
-  kept_as roots' params' (Last n) q = rw q.2 (last_held q.0 q.1)
-  kept_as roots' params' (On i n) q = rw (q.2, q.3) (more_going q.0 q.1)
-  kept_as roots' params' Crowded q = absurd q
+  -- the heading of the plan, and what is behind the procedure
+  module _ (heading : Heading) (rest : Rest) (v_is : heading.version ≡ v) (m_is : heading.mask ≡ m) (at_is : rest.at ≡ at') (left_is : rest.left ≡ left') where
+    ends_as : (roots' params' : List ℕ) (r : Outcome) → EndsAs ts heading p at words' roots params roots' params' root k rest r → v ≤ 1
+        → ReadBy ts words' roots' params' r
+    unfolding fault_of
+    ends_as roots' params' (outcome.Refused kind reason stop) q few =
+        opens g h t.values t.terms t.rest result_is (sym closed_is ∙ q.0) ∙ sym (rw (q.1, q.2) refl)
+    ends_as roots' params' (outcome.Plan x y n left) q few =
+        rw (q.2 ∙ v_is, q.3 ∙ m_is, q.4, q.5 ∙ left_is) (last_held q.0 (ap (ahead ts) (sym at_is) ∙ q.1), few)
+    ends_as roots' params' outcome.Full q few = absurd q
 
-  pub kept_goes : {roots' params' : List ℕ} {r : Next} → Keeps ts p at words' roots params roots' params' root k left' at' r
-      → Goes ts v m words' roots' params' p r
-  kept_goes {roots'} {params'} {r} q = record { so = kept_as roots' params' r q.so }
+    kept_as : (roots' params' : List ℕ) (r : ControlFlow Outcome Rest) → KeptAs ts heading p at words' roots params roots' params' root k rest r
+        → GoesAs ts v m words' roots' params' p r
+    kept_as roots' params' (Break r) q = ends_as roots' params' r q
+    kept_as roots' params' (Continue r) q =
+        rw (ap (λ (x : Rest). x.at) q.2 ∙ at_is, ap (λ (x : Rest). x.left) q.2 ∙ left_is) (more_going q.0 (λ z. q.1 (ap (ahead ts) at_is ∙ z)))
+
+    pub kept_goes : {roots' params' : List ℕ} {r : ControlFlow Outcome Rest} → Keeps ts heading p at words' roots params roots' params' root k rest r
+        → Goes ts v m words' roots' params' p r
+    kept_goes {roots'} {params'} {r} q = record { so = kept_as roots' params' r q.so }
 
 -- ---- what a step says, by what follows it
 
-module _ {ts : List ℕ} {v m : ℕ} {words roots params : List ℕ} {p : ℕ} {r : Next} (g : Goes ts v m words roots params p r) where
-  pub on_going : {at left : ℕ} → r ≡ On at left → Going ts v m words roots params (suc p) at left
+module _ {ts : List ℕ} {v m : ℕ} {words roots params : List ℕ} {p : ℕ} {r : ControlFlow Outcome Rest} (g : Goes ts v m words roots params p r) where
+  pub on_going : {rest : Rest} → r ≡ Continue rest → Going ts v m words roots params (suc p) rest.at rest.left
   on_going e = subst (GoesAs ts v m words roots params p) e g.so
 
-  pub last_plan : {left : ℕ} → r ≡ Last left → PlanHeld ts v m (suc p) left words roots params
-  last_plan e = subst (GoesAs ts v m words roots params p) e g.so
-
-  pub stop_fault : {kind reason at : ℕ} → r ≡ Stop kind reason at → Faulty ts kind reason at
-  stop_fault e = subst (GoesAs ts v m words roots params p) e g.so
-
-  pub crowded_short : r ≡ Crowded → length words < 1024
-  crowded_short e = subst (GoesAs ts v m words roots params p) e g.so
+  pub ended : {o : Outcome} → r ≡ Break o → v ≤ 1 → ReadAs ts words roots params o
+  ended e few = record { so = (subst (GoesAs ts v m words roots params p) e g.so) few }

@@ -1,15 +1,14 @@
 -- The volatile fields, one by one. Assumes nothing.
 use Prim.Native.Nat.{ℕ, zero, suc, ◌+◌, ◌-◌, ◌*◌, ◌^◌, ◌≤◌, ◌<◌}
-use native.Mathlib.Decide.{dec_lt}
 use native.Mathlib.Omega.{arith}
 use mathlib.Core.Path.{◌≡◌, refl, sym, ap, ◌∙◌}
-use mathlib.Core.Bool.{Bool, true, false, cond, ◌&&◌, true≢false}
+use mathlib.Core.Bool.{Bool, true, false, ◌&&◌, true≢false}
 use mathlib.Core.List.{List, [], ◌∷◌}
-use lib.Dec.{eqb, ltb}
+use lib.Dec.{ltb}
 use lib.ListN.{length, get_or, drop, drop_of_length-le}
 use lib.Seq.{drop-cons}
 use lib.Pow.{pow_mono}
-use borrow.Author.Tests.{lt-ltb, le-ltb, ltb-true}
+use borrow.Author.Tests.{ltb-true}
 use Rattle.plan_notation.specs.Tokens.{text_end}
 use Rattle.plan_parsing.specs.Parser.{ahead}
 use Rattle.plan_parsing.specs.Plan.{mask_from, behind_fields}
@@ -55,67 +54,56 @@ unfolding behind_fields
 behind_end f = refl
 
 -- where the loop stands
-pub record Going (ts : List ℕ) (from mask last at token : ℕ) : Type 0 where
+pub record Going (ts : List ℕ) (from mask last at : ℕ) : Type 0 where
   pub mask_same : mask_from mask last (drop at ts) ≡ mask_from (2 ^ 31) 0 (drop from ts)
   pub rest_same : behind_fields last (drop at ts) ≡ behind_fields 0 (drop from ts)
-  pub token_is : token ≡ ahead ts at
   pub inside : at ≤ length ts
   pub last_small : last < 32
   pub mask_small : mask ≤ 2147483648 * (last + 1)
 
-pub starts : (ts : List ℕ) (from token : ℕ) → token ≡ ahead ts from → from ≤ length ts → Going ts from 2147483648 0 from token
-starts ts from token e h = record { mask_same = refl; rest_same = refl; token_is = e; inside = h; last_small = omega arith; mask_small = omega arith }
+pub starts : (ts : List ℕ) (from : ℕ) → from ≤ length ts → Going ts from 2147483648 0 from
+starts ts from h = record { mask_same = refl; rest_same = refl; inside = h; last_small = omega arith; mask_small = omega arith }
 
-module _ {ts : List ℕ} {from mask last at token : ℕ} (g : Going ts from mask last at token) where
-  -- a field is not the text's end
-  within : token < 32 → at < length ts
-  within h = go (dec_lt at (length ts))
-    where
-      go : Dec (at < length ts) → at < length ts
-      go (yes l) = l
-      go (no n) = absurd (omega (arith, g.token_is, beyond ts at (omega (arith, n)), h))
-
+module _ {ts : List ℕ} {from mask last at : ℕ} (g : Going ts from mask last at) where
   pub power_small : (t : ℕ) → 2 ^ (31 - t) ≤ 2147483648
   power_small t = pow_mono {i = 31 - t} {j = 31} (omega arith)
 
-  pub goes_on_lem : (token' : ℕ) → is_next last token ≡ true → token' ≡ ahead ts (at + 1) → Going ts from (mask + 2 ^ (31 - token)) token (at + 1) token'
-  goes_on_lem token' e f =
-      let q = next_is last token e in
-      let l = within q.1 in
-      let d = drop-cons ts at text_end l ∙ ap (λ (x : ℕ). x ∷ drop (suc at) ts) (sym g.token_is) in
-      let s = ap (λ (i : ℕ). drop i ts) (next at) in
-      record {
-        mask_same =
-            ap (mask_from (mask + 2 ^ (31 - token)) token) s ∙ sym (mask_more mask last token (drop (suc at) ts) e) ∙ ap (mask_from mask last) (sym d)
-            ∙ g.mask_same;
-        rest_same = ap (behind_fields token) s ∙ sym (behind_more last token (drop (suc at) ts) e) ∙ ap (behind_fields last) (sym d) ∙ g.rest_same;
-        token_is = f;
-        inside = omega (arith, l);
-        last_small = q.1;
-        mask_small = bound mask (2 ^ (31 - token)) last token g.mask_small (power_small token) q.0;
-      }
-    where
-      next : (at : ℕ) → at + 1 ≡ suc at
-      next at = omega arith
+  -- at a token
+  module _ (token : ℕ) (l : at < length ts) (t : token ≡ get_or ts at 0) where
+    here : drop at ts ≡ token ∷ drop (suc at) ts
+    here = drop-cons ts at 0 l ∙ ap (λ (x : ℕ). x ∷ drop (suc at) ts) (sym t)
 
-      bound : (m p l t : ℕ) → m ≤ 2147483648 * (l + 1) → p ≤ 2147483648 → l < t → m + p ≤ 2147483648 * (t + 1)
-      bound m p l t a b c = omega arith
+    pub goes_on_lem : is_next last token ≡ true → Going ts from (mask + 2 ^ (31 - token)) token (at + 1)
+    goes_on_lem e =
+        let q = next_is last token e in
+        let s = ap (λ (i : ℕ). drop i ts) (next at) in
+        record {
+          mask_same =
+              ap (mask_from (mask + 2 ^ (31 - token)) token) s ∙ sym (mask_more mask last token (drop (suc at) ts) e) ∙ ap (mask_from mask last) (sym here)
+              ∙ g.mask_same;
+          rest_same = ap (behind_fields token) s ∙ sym (behind_more last token (drop (suc at) ts) e) ∙ ap (behind_fields last) (sym here) ∙ g.rest_same;
+          inside = omega (arith, l);
+          last_small = q.1;
+          mask_small = bound mask (2 ^ (31 - token)) last token g.mask_small (power_small token) q.0;
+        }
+      where
+        next : (at : ℕ) → at + 1 ≡ suc at
+        next at = omega arith
+
+        bound : (m p l t : ℕ) → m ≤ 2147483648 * (l + 1) → p ≤ 2147483648 → l < t → m + p ≤ 2147483648 * (t + 1)
+        bound m p l t a b c = omega arith
+
+    -- one that is no further field
+    pub mask_is : is_next last token ≡ false → mask ≡ mask_from (2 ^ 31) 0 (drop from ts)
+    mask_is e = sym (ap (mask_from mask last) here ∙ mask_none mask last token (drop (suc at) ts) e) ∙ g.mask_same
+
+    pub rest_is : is_next last token ≡ false → drop at ts ≡ behind_fields 0 (drop from ts)
+    rest_is e = here ∙ sym (ap (behind_fields last) here ∙ behind_none last token (drop (suc at) ts) e) ∙ g.rest_same
 
   -- at the end
-  pub mask_is : is_next last token ≡ false → mask ≡ mask_from (2 ^ 31) 0 (drop from ts)
-  mask_is e = sym (by (dec_lt at (length ts))) ∙ g.mask_same
-    where
-      by : Dec (at < length ts) → mask_from mask last (drop at ts) ≡ mask
-      by (yes l) =
-          ap (mask_from mask last) (drop-cons ts at text_end l)
-          ∙ mask_none mask last (ahead ts at) (drop (suc at) ts) (ap (is_next last) (sym g.token_is) ∙ e)
-      by (no n) = ap (mask_from mask last) (drop_of_length-le ts {i = at} (omega (arith, n))) ∙ mask_end mask last
+  pub mask_at_end : length ts ≤ at → mask ≡ mask_from (2 ^ 31) 0 (drop from ts)
+  mask_at_end h = sym (ap (mask_from mask last) (drop_of_length-le ts h) ∙ mask_end mask last) ∙ g.mask_same
 
-  pub rest_is : is_next last token ≡ false → drop at ts ≡ behind_fields 0 (drop from ts)
-  rest_is e = sym (by (dec_lt at (length ts))) ∙ g.rest_same
-    where
-      by : Dec (at < length ts) → behind_fields last (drop at ts) ≡ drop at ts
-      by (yes l) =
-          ap (behind_fields last) (drop-cons ts at text_end l) ∙ behind_none last (ahead ts at) (drop (suc at) ts) (ap (is_next last) (sym g.token_is) ∙ e)
-          ∙ sym (drop-cons ts at text_end l)
-      by (no n) = let d = drop_of_length-le ts {i = at} (omega (arith, n)) in ap (behind_fields last) d ∙ behind_end last ∙ sym d
+  pub rest_at_end : length ts ≤ at → drop (length ts) ts ≡ behind_fields 0 (drop from ts)
+  rest_at_end h =
+      drop_of_length-le ts {i = length ts} (omega arith) ∙ sym (ap (behind_fields last) (drop_of_length-le ts h) ∙ behind_end last) ∙ g.rest_same

@@ -12,6 +12,7 @@ ghost use Rattle.plan_reader.specs.Inner.Reading.{count_at, is_next, Fielded, Ma
 use byte_numbers::wide;
 use plan_notation::tokens;
 use plan_parser::Parsed;
+use std::ops::ControlFlow;
 
 // The version, the mask of volatile fields, and the token behind both.
 #[derive(Clone, Copy)]
@@ -48,10 +49,8 @@ fn put_further(tokens: &[u8], area: &mut [u8], from: usize) -> usize
     ensures { Wrote area.old from (counts_from tokens.now) area.new result }
 {
     let mut next = from;
-    let mut index = 0;
-    while index < tokens.len() {
+    for index in 0..tokens.len() {
         next = put_count(tokens, index, area, next);
-        index += 1;
     }
     next
 }
@@ -69,7 +68,7 @@ fn put_counts(tokens: &[u8], area: &mut [u8]) -> usize
 fn is_next(last: usize, token: usize) -> bool
     ensures { result ≡ is_next last token }
 {
-    if token < 32 { last < token } else { false }
+    last < token && token < 32
 }
 
 // Fields, each higher than the one before; field 0 is volatile in every plan.
@@ -79,18 +78,18 @@ fn fields(tokens: &[u8], version: usize, from: usize) -> Heading
 {
     let mut mask = 2147483648;
     let mut last = 0;
-    let mut at = from;
-    let mut token = ahead(tokens, at);
-    while is_next(last, token) {
+    for at in from..tokens.len() {
+        let token = wide(tokens[at]);
+        if !is_next(last, token) {
+            return Heading { version, mask, at };
+        }
         mask += 1usize << (31 - token);
         last = token;
-        at += 1;
-        token = ahead(tokens, at);
     }
     Heading {
-        version: version,
-        mask: mask,
-        at: at,
+        version,
+        mask,
+        at: tokens.len(),
     }
 }
 
@@ -101,9 +100,9 @@ fn volatiles(tokens: &[u8], version: usize, at: usize) -> Heading
 {
     if ahead(tokens, at) != tokens::VOLATILE {
         return Heading {
-            version: version,
+            version,
             mask: 2147483648,
-            at: at,
+            at,
         };
     }
     fields(tokens, version, at + 1)
@@ -154,25 +153,17 @@ pub const SLOTS: usize = 2;
 
 pub const END: usize = 3;
 
-// After a procedure: the next one, from a token and with so many terms left; or it was the last; or a fault; or the arrays are too short.
+// Where the next procedure begins, and how many terms are left for it.
 #[derive(Clone, Copy)]
-enum Next {
-    On {
-        at: usize,
-        left: usize,
-    },
-    Last(usize),
-    Stop {
-        kind: usize,
-        reason: usize,
-        at: usize,
-    },
-    Crowded,
+struct Rest {
+    at: usize,
+    left: usize,
 }
 
 // A procedure has been read: its slots, its place in the arrays, and what is behind it.
 fn keep(
     tokens: &[u8],
+    heading: Heading,
     procedure: usize,
     at: usize,
     words: &[usize],
@@ -180,67 +171,70 @@ fn keep(
     parameters: &mut [usize; 32],
     root: usize,
     count: usize,
-    left: usize,
-    next: usize,
-) -> Next
+    rest: Rest,
+) -> ControlFlow<Outcome, Rest>
     requires { (procedure < 32) × Ordered words.now × (root < 1024) × (count < 9) }
-    ensures { Keeps tokens.now procedure at words.now roots.old parameters.old
-        roots.new parameters.new root count left next result }
+    ensures { Keeps tokens.now heading procedure at words.now roots.old parameters.old
+        roots.new parameters.new root count rest result }
 {
     if !plan_bound_slots::closed_with(words, root, count) {
-        return Next::Stop {
+        return ControlFlow::Break(Outcome::Refused {
             kind: SLOTS,
             reason: 0,
-            at: at,
-        };
+            at,
+        });
     }
     roots[procedure] = root;
     parameters[procedure] = count;
-    if ahead(tokens, next) == tokens::END {
-        return Next::Last(left);
+    if ahead(tokens, rest.at) == tokens::END {
+        return ControlFlow::Break(Outcome::Plan {
+            version: heading.version,
+            mask: heading.mask,
+            procedures: procedure + 1,
+            left: rest.left,
+        });
     }
-    Next::On {
-        at: next,
-        left: left,
-    }
+    ControlFlow::Continue(rest)
 }
 
-// Procedure by procedure.
+// Procedure by procedure: what is left behind it, or what comes of the plan.
 fn step(
     tokens: &[u8],
     counts: &[u8],
+    heading: Heading,
     procedure: usize,
-    at: usize,
-    left: usize,
+    rest: Rest,
     words: &mut [usize],
     roots: &mut [usize; 32],
     parameters: &mut [usize; 32],
-    version: usize,
-    mask: usize,
     goals: &mut [u16],
     values: &mut [usize],
-) -> Next
+) -> ControlFlow<Outcome, Rest>
     requires tokens_len_bound { (length tokens.now ≤ 16384) × (counts.now ≡ counts_of tokens.now) × (procedure < 32) }
     requires sized { Sized goals.old values.old words.old }
-    requires going { Going tokens.now version mask words.old roots.old parameters.old procedure at left }
-    ensures { Goes tokens.now version mask words.new roots.new parameters.new procedure result }
+    requires going { Going tokens.now heading.version heading.mask words.old roots.old parameters.old procedure rest.at rest.left }
+    ensures { Goes tokens.now heading.version heading.mask words.new roots.new parameters.new procedure result }
 {
-    let parsed = plan_parser::procedure(tokens, at, procedure, counts, words, left, goals, values);
-    match parsed {
-        Parsed::Stopped { reason, at: stop } => Next::Stop {
+    match plan_parser::procedure(
+        tokens, rest.at, procedure, counts, words, rest.left, goals, values,
+    ) {
+        Parsed::Stopped { reason, at } => ControlFlow::Break(Outcome::Refused {
             kind: READING,
-            reason: reason,
-            at: stop,
-        },
+            reason,
+            at,
+        }),
         Parsed::Read {
             root,
             parameters: count,
-            left: fewer,
-            at: next,
-        } => keep(
-            tokens, procedure, at, words, roots, parameters, root, count, fewer, next,
-        ),
-        Parsed::Full => Next::Crowded,
+            left,
+            at,
+        } => {
+            let behind = Rest { at, left };
+            keep(
+                tokens, heading, procedure, rest.at, words, roots, parameters, root, count, behind,
+            )
+        }
+        Parsed::Full => ControlFlow::Break(Outcome::Full),
     }
 }
 
@@ -260,53 +254,22 @@ fn procedures(
     requires going { Going tokens.now heading.version heading.mask words.old roots.old parameters.old 0 heading.at (length words.old) }
     ensures { ReadAs tokens.now words.new roots.new parameters.new result }
 {
-    let version = heading.version;
-    let mask = heading.mask;
-    let mut at = heading.at;
-    let mut left = words.len();
-    let mut procedure = 0;
-    while procedure < 32 {
-        let next = step(
-            tokens, counts, procedure, at, left, words, roots, parameters, version, mask, goals,
-            values,
-        );
-        match next {
-            Next::On {
-                at: behind,
-                left: fewer,
-            } => {
-                at = behind;
-                left = fewer;
-            }
-            Next::Last(fewer) => {
-                return Outcome::Plan {
-                    version: version,
-                    mask: mask,
-                    procedures: procedure + 1,
-                    left: fewer,
-                };
-            }
-            Next::Stop {
-                kind,
-                reason,
-                at: stop,
-            } => {
-                return Outcome::Refused {
-                    kind: kind,
-                    reason: reason,
-                    at: stop,
-                };
-            }
-            Next::Crowded => {
-                return Outcome::Full;
-            }
+    let mut rest = Rest {
+        at: heading.at,
+        left: words.len(),
+    };
+    for procedure in 0..32 {
+        match step(
+            tokens, counts, heading, procedure, rest, words, roots, parameters, goals, values,
+        ) {
+            ControlFlow::Continue(behind) => rest = behind,
+            ControlFlow::Break(outcome) => return outcome,
         }
-        procedure += 1;
     }
     Outcome::Refused {
         kind: END,
         reason: 0,
-        at: at,
+        at: rest.at,
     }
 }
 

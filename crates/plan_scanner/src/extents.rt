@@ -35,21 +35,16 @@ pub fn name_from(classes: &Classes, text: &[u8], from: usize, first: u8) -> Name
     ensures { NameEnds text.now from first result.value result.end }
 {
     let mut value = wide(first);
-    let mut end = from;
-    while end < text.len() {
+    for end in from..text.len() {
         let class = classes::class_of(classes, text[end]);
         if HASH <= class {
-            return Name {
-                value: value,
-                end: end,
-            };
+            return Name { value, end };
         }
         value = grown(value, class);
-        end += 1;
     }
     Name {
-        value: value,
-        end: end,
+        value,
+        end: text.len(),
     }
 }
 
@@ -58,14 +53,12 @@ pub fn comment_end(text: &[u8], from: usize) -> usize
     requires { from ≤ length text.now }
     ensures { CommentEnds text.now from result }
 {
-    let mut end = from;
-    while end < text.len() {
+    for end in from..text.len() {
         if text[end] == b'\n' {
             return end;
         }
-        end += 1;
     }
-    end
+    text.len()
 }
 
 // Whether `=` comes behind the colon at this place.
@@ -73,9 +66,5 @@ pub fn becomes(text: &[u8], colon: usize) -> bool
     requires { colon < length text.now }
     ensures { result ≡ eqb (get_or text.now (colon + 1) 0) 61 }
 {
-    let next = colon + 1;
-    if next < text.len() {
-        return text[next] == b'=';
-    }
-    false
+    text.get(colon + 1) == Some(&b'=')
 }

@@ -1,7 +1,7 @@
 -- Where every variable's slot is in its term's scope, the procedures' trees use no unbound slot. Assumes nothing.
-use mathlib.Core.Path.{◌≡◌, refl, ap, sym, subst, ◌∙◌}
+use mathlib.Core.Path.{◌≡◌, refl, ap, sym, ◌∙◌}
 use mathlib.Core.Bool.{Bool, true, false, ◌&&◌, ◌||◌, not, false≢true}
-use mathlib.Core.List.{List, [], ◌∷◌}
+use mathlib.Core.List.{List}
 use mathlib.Core.Option.{Option, some, none}
 use Prim.Native.Nat.{ℕ, zero, suc, ◌+◌, ◌-◌, ◌/◌, ◌%◌, ◌^◌, ◌≤◌, ◌<◌}
 use native.Mathlib.Nat.{div-eq_of_lt}
@@ -11,15 +11,13 @@ use lib.Dec.{eqb, ltb}
 use lib.ListN.{get_or}
 use borrow.Author.Tests.{eqb-true}
 use lib.Pow.{pow_mono, field, mod-mod-pow}
-use Rattle.plan_packed.specs.Format
 use Rattle.plan_packed.specs.Format.{parameters, root, layout, table}
 use Rattle.plan_packed.specs.Refusals.{times_named, not_named_once, uses_unbound_slot}
 use Rattle.plan_packed.specs.Slots.{bound, closed, closedᶜ, closedᵃ}
-use Rattle.plan_packed.specs.Syntax.{Expression, Condition, Arguments}
 use Rattle.plan_packed.specs.Trees.{binder_of, nodes, node_of, expression_of, condition_of, arguments_of}
 use Rattle.plan_packed.specs.Inner.Operands.{tag_of, slot_bits}
 use Rattle.plan_packed.specs.Inner.Rows.{number_at}
-use Rattle.plan_packed.specs.Inner.Steps.{Right, Loaded, Ordered, word_at, in_word, bit_of, slots, with_slot, tree_in, condition_in, list_in, all_times}
+use Rattle.plan_packed.specs.Inner.Steps.{Right, Loaded, Ordered, in_word, bit_of, slots, with_slot, tree_in, condition_in, list_in, all_times}
 use Rattle.plan_packed.proofs.NodeOrder.{ordered, tree_is}
 use Rattle.plan_packed.proofs.Shown.{root_below}
 use Rattle.plan_packed.proofs.SingleTerm.{row_of}
@@ -27,7 +25,7 @@ use Rattle.plan_packed.proofs.SlotMasks.{bound_is, parameters_are}
 use Rattle.plan_packed.proofs.Tags.{by_tag}
 use Rattle.plan_packed.proofs.Walk.{expr_is, cond_is, list_is}
 use Rattle.plan_scopes.specs.Inner.Scopes.{Handed, inner_scope, handed_by_row, Each, TermsScoped}
-use Rattle.plan_scopes.proofs.Handing.{each_both, Between}
+use Rattle.plan_scopes.proofs.Handing.{each_both}
 use Rattle.plan_scopes.proofs.Terms.{handed_at, later}
 
 -- ---- slots of a mask

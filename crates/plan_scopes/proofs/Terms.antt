@@ -1,6 +1,6 @@
 -- The scopes that the terms hand to their children. Assumes nothing.
-use mathlib.Core.Path.{◌≡◌, refl, ap, sym, subst, ◌∙◌}
-use mathlib.Core.Bool.{Bool, false, ◌||◌, not}
+use mathlib.Core.Path.{◌≡◌, refl, ap, sym, ◌∙◌}
+use mathlib.Core.Bool.{false, ◌||◌, not}
 use mathlib.Core.List.{List, [], ◌∷◌}
 use Prim.Native.Nat.{ℕ, suc, ◌+◌, ◌≤◌, ◌<◌}
 use native.Mathlib.Decide.{ℕ_discrete}
@@ -11,11 +11,11 @@ use borrow.Author.Tests.{ne_eqb}
 use Rattle.format.proofs.RefusalLaws.{neither}
 use Rattle.plan_packed.specs.Format
 use Rattle.plan_packed.specs.Format.{terms, parameters, root, laid_out, term_at, tag_count}
-use Rattle.plan_packed.specs.Refusals.{sum_below, one_if, wrong_term, breaks_table, times_in}
+use Rattle.plan_packed.specs.Refusals.{sum_below, wrong_term, times_in}
 use Rattle.plan_packed.specs.Trees.{node_of, node_at}
 use Rattle.plan_packed.specs.Inner.Operands.{tag_of}
-use Rattle.plan_packed.specs.Inner.Rows.{number_at, bits_to, bits_after, wrong_other, wrong_terms, wrong_by_row, children_by_row}
-use Rattle.plan_packed.specs.Inner.Steps.{Headed, word_at, term_in, children_of, all_times, root_times}
+use Rattle.plan_packed.specs.Inner.Rows.{number_at, bits_to, bits_after, wrong_other, wrong_terms, wrong_by_row}
+use Rattle.plan_packed.specs.Inner.Steps.{Headed, word_at, children_of, all_times, root_times}
 use Rattle.plan_packed.proofs.Reading.{term_is, tag_in_lem}
 use Rattle.plan_packed.proofs.NameLaws.{times_of, term_times}
 use Rattle.plan_packed.proofs.RowLaws.{by_row, children_are}

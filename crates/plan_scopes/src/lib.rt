@@ -18,11 +18,7 @@ pub fn inner(tag: usize, word: usize, scope: u8) -> u8
     if tag != tags::LET {
         return scope;
     }
-    let slot = plan_operands::slot_of(word);
-    if slot == 15 {
-        return scope;
-    }
-    ((wide(scope) | (1usize << slot)) % 256) as u8
+    (plan_bound_slots::with(wide(scope), plan_operands::slot_of(word)) % 256) as u8
 }
 
 // Term `index` is handed this scope.
@@ -39,12 +35,10 @@ pub fn hand_to_roots(plan: &[u8], procedures: usize, count: usize, scopes: &mut 
     requires scopes_value { scopes.old ≡ replicate 1024 0 }
     ensures { RootsScoped plan.now procedures scopes.new }
 {
-    let mut procedure = 0;
-    while procedure < procedures {
+    for procedure in 0..procedures {
         let root = layout::root(plan, procedure);
         let parameters = layout::parameters(plan, procedure);
         hand(scopes, ((1usize << parameters) - 1) as u8, root);
-        procedure += 1;
     }
 }
 
@@ -53,7 +47,7 @@ fn bound(word: usize, scope: u8) -> bool
     ensures { result ≡ (not (eqb (tag_of word) 1) || bit_of scope (slot_bits word)) }
 {
     (plan_operands::tag(word) != tags::VARIABLE)
-        | ((wide(scope) >> plan_operands::slot_of(word)) % 2 == 1)
+        | plan_bound_slots::holds(wide(scope), plan_operands::slot_of(word))
 }
 
 // Every slot that a procedure uses is bound there, of a plan whose terms are named once. Without an early end and without a branch to each term, since the
@@ -72,10 +66,8 @@ pub fn all_bound(
     ensures { result ≡ true → (p : ℕ) → p < procedures → uses_unbound_slot plan.now p ≡ false }
 {
     let mut all = true;
-    let mut term = 0;
-    while term < count {
-        all = all & bound(words[term], scopes[term]);
-        term += 1;
+    for term in 0..count {
+        all &= bound(words[term], scopes[term]);
     }
     all
 }

@@ -10,12 +10,7 @@ pub fn occurs(words: &[usize; 1024], count: usize, tag: usize) -> bool
     requires { count < 1025 }
     ensures { result ≡ any_below count (λ t. eqb (tag_in words.now t) tag) }
 {
-    let mut term = 0;
-    while term < count {
-        if plan_operands::tag(words[term]) == tag {
-            return true;
-        }
-        term += 1;
-    }
-    false
+    words[..count]
+        .iter()
+        .any(|word| plan_operands::tag(*word) == tag)
 }

@@ -102,13 +102,9 @@ fn wrong_term(
     }
     let kind = rows::number(rows, tag, OTHER);
     let place = rows::number(rows, tag, OTHER + 1);
-    if wrong_other(kind, word, place, procedures) {
-        return true;
-    }
-    if wrong_children(rows, tag, word, scope, term, count, notes, scopes) {
-        return true;
-    }
-    rows::bits_after(word, rows::number(rows, tag, SPARE)) != 0
+    wrong_other(kind, word, place, procedures)
+        || wrong_children(rows, tag, word, scope, term, count, notes, scopes)
+        || rows::bits_after(word, rows::number(rows, tag, SPARE)) != 0
 }
 
 // The lowest wrong term, or the count: then every term's 40 bits are in `words`, which came as zeros, the names of all terms are noted beside those by the
@@ -132,15 +128,13 @@ pub fn load(
     ensures terms_noted { count ≤ result → TermsNoted plan.now count notes.new }
     ensures terms_scoped { count ≤ result → TermsScoped plan.now count scopes.new }
 {
-    let mut term = 0;
-    while term < count {
+    for term in 0..count {
         let word = term::word_at(plan, procedures, term);
         let scope = scopes[term];
         if wrong_term(rows, word, scope, term, procedures, count, notes, scopes) {
             return term;
         }
         words[term] = word;
-        term += 1;
     }
-    term
+    count
 }

@@ -107,9 +107,9 @@ skip_field m f h n =
     next f = omega arith
 
 -- with `volatile` before them
-pub volatile_none : (m r : ℕ) → fields_from m 1 31 ≡ fields_from m r (32 - r) → r ≡ 32 → volatile_tokens (fields_from m 1 31) ≡ []
-unfolding volatile_tokens fields_from
-volatile_none m r e h = ap volatile_tokens (e ∙ ap (λ (x : ℕ). fields_from m x (32 - x)) h)
+pub volatile_none : (m : ℕ) → fields_from m 1 31 ≡ [] → volatile_tokens (fields_from m 1 31) ≡ []
+unfolding volatile_tokens
+volatile_none m e = ap volatile_tokens e
 
 pub volatile_some : (m r : ℕ) → fields_from m 1 31 ≡ fields_from m r (32 - r) → r < 32 → mask_bit m r ≡ 1
     → volatile_tokens (fields_from m 1 31) ≡ (volatile_word ∷ []) ++ fields_from m r (32 - r)

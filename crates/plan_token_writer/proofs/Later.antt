@@ -1,5 +1,5 @@
 -- The items of a term's row: each tree among them is at a later term, in one of the contexts. Assumes nothing.
-use Prim.Native.Nat.{ℕ, suc, ◌+◌, ◌-◌, ◌*◌, ◌/◌, ◌%◌, ◌≤◌, ◌<◌}
+use Prim.Native.Nat.{ℕ, ◌+◌, ◌*◌, ◌/◌, ◌%◌, ◌<◌}
 use native.Mathlib.Decide.{ℕ_discrete, dec_lt}
 use native.Mathlib.Omega.{arith}
 use mathlib.Core.Path.{◌≡◌, refl, sym, subst, ◌∙◌}
@@ -12,7 +12,6 @@ use Rattle.plan_packed.specs.Format.{table, layout}
 use Rattle.plan_packed.specs.Inner.Operands.{tag_of, first_of, second_of, third_of, slot_bits, let_first, let_second, field_bits, write_second, procedure_bits, list_bits}
 use Rattle.plan_packed.specs.Trees.{nodes, node_of}
 use Rattle.plan_packed.specs.Inner.Steps.{Ordered, in_word}
-use Rattle.format.proofs.Ranges.{by_range}
 use Rattle.plan_packed.proofs.Tags.{past, by_tag}
 use Rattle.plan_packed.proofs.Walk.{row_below}
 use Rattle.plan_notation.specs.Tokens.{opening, closing}

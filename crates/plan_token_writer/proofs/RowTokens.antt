@@ -1,16 +1,16 @@
 -- The tokens of a term are those of its row's items, by its tag. Assumes nothing.
-use Prim.Native.Nat.{ℕ, suc, ◌+◌, ◌-◌, ◌*◌, ◌/◌, ◌%◌, ◌≤◌, ◌<◌}
+use Prim.Native.Nat.{ℕ, ◌+◌, ◌-◌, ◌%◌, ◌<◌}
 use native.Mathlib.Decide.{ℕ_discrete, dec_lt}
 use native.Mathlib.Omega.{arith}
-use mathlib.Core.Path.{◌≡◌, refl, sym, ap, ap₂, subst, ◌∙◌}
-use mathlib.Core.Bool.{Bool, true, false, cond, ◌&&◌}
-use mathlib.Core.List.{List, [], ◌∷◌, ◌++◌}
+use mathlib.Core.Path.{◌≡◌, refl, sym, ap, subst, ◌∙◌}
+use mathlib.Core.Bool.{false, cond, ◌&&◌}
+use mathlib.Core.List.{List, [], ◌∷◌}
 use mathlib.Core.Option.{some, none}
-use lib.Dec.{eqb, ltb, leb}
+use lib.Dec.{eqb, ltb}
 use lib.ListN.{get_or}
 use borrow.Author.Tests.{le-ltb, lt-ltb, eq-eqb, ne_eqb}
-use Rattle.plan_packed.specs.Syntax.{Expression, Condition, Arguments}
-use Rattle.plan_packed.specs.Format.{table, layout, fields_from}
+use Rattle.plan_packed.specs.Syntax.{Condition, Arguments}
+use Rattle.plan_packed.specs.Format.{table, layout}
 use Rattle.plan_packed.specs.Inner.Operands.{tag_of, first_of, second_of, third_of, slot_bits, let_first, let_second, field_bits, write_second, procedure_bits, list_bits}
 use Rattle.plan_packed.specs.Trees.{nodes, node_of, expression_of, condition_of, arguments_of, binder_of}
 use Rattle.plan_packed.specs.Inner.Steps.{Ordered, in_word, tree_in, condition_in, list_in}
@@ -22,11 +22,11 @@ use Rattle.plan_packed.proofs.Walk.{expr_is, cond_is, list_is}
 use Rattle.plan_notation.specs.Tokens.{then_word, else_word, do_word, all_word, and_word, true_word, not_word, null_word, let_word, if_word, while_word}
 use Rattle.plan_notation.specs.Tokens as tokens
 use Rattle.plan_notation.specs.Tokens.{call_word, fork_word, join_word, synch_word, wait_word, notify_word, opening, closing, comma, dot, equals, becomes, dash}
-use Rattle.plan_notation.specs.Shown.{loose, testing, prefix, tight, grouped, binder_token, signal_tokens, shown, shownᶜ, shownᵃ, shown_further}
-use Rattle.plan_token_writer.specs.Inner.Items.{token, child, as_condition, as_arguments, as_further, shown_as, item_tokens, tokens_in, bits_behind, operand_by, binder_on}
+use Rattle.plan_notation.specs.Shown.{loose, testing, prefix, tight, binder_token, shown, shownᶜ, shownᵃ, shown_further}
+use Rattle.plan_token_writer.specs.Inner.Items.{token, as_arguments, shown_as, item_tokens, tokens_in, bits_behind, operand_by, binder_on}
 use Rattle.plan_token_writer.specs.Inner.Items.{item_of}
-use Rattle.plan_token_writer.specs.Inner.Items.{item_rows, condition_row, row_as, row_number, items_from, row_items}
-use Rattle.plan_token_writer.proofs.ItemTokens.{token_is, child_is, joined, Each, tokens_are, tokens_append, grouped_are}
+use Rattle.plan_token_writer.specs.Inner.Items.{item_rows, condition_row, row_as, items_from, row_items}
+use Rattle.plan_token_writer.proofs.ItemTokens.{token_is, child_is, tokens_are, grouped_are}
 
 -- bits are few
 small₅ : (x : ℕ) → x % 32 < 256

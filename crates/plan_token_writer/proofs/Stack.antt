@@ -4,7 +4,7 @@ use native.Mathlib.Numerals.{add-one}
 use native.Mathlib.Omega.{arith}
 use mathlib.Core.Path.{◌≡◌, refl, sym, ap, ap₂, ◌∙◌}
 use mathlib.Core.List.{List, [], ◌∷◌, ◌++◌, append_assoc}
-use lib.ListN.{length, length-append, get_or, set, length-set}
+use lib.ListN.{length, length-append, set, length-set}
 use lib.Seq.{get_or-set_same, get_or-set_other}
 use Rattle.plan_token_writer.specs.Inner.Items.{stack_of, Pushed}
 

@@ -1,14 +1,13 @@
 -- The three kinds of steps: a token, a `new`, any other term. Assumes nothing.
-use Prim.Native.Nat.{ℕ, suc, ◌+◌, ◌-◌, ◌*◌, ◌/◌, ◌%◌, ◌≤◌, ◌<◌}
-use native.Mathlib.Decide.{dec_lt}
+use Prim.Native.Nat.{ℕ, ◌+◌, ◌-◌, ◌/◌, ◌%◌, ◌≤◌, ◌<◌}
 use native.Mathlib.Omega.{arith}
 use mathlib.Core.Path.{◌≡◌, refl, sym, ap, subst, ◌∙◌}
-use mathlib.Core.Bool.{Bool, true, false, cond, ◌&&◌, true≢false}
+use mathlib.Core.Bool.{Bool, true, false, ◌&&◌, true≢false}
 use mathlib.Core.List.{List, [], ◌∷◌, ◌++◌, append-nil}
 use lib.Dec.{eqb, ltb}
 use lib.ListN.{length, length-append, get_or}
-use borrow.Author.Tests.{le-leb, lt-leb, le-ltb, lt-ltb, eqb-true, eq-eqb}
-use Rattle.plan_packed.specs.Format.{table, layout, fields_from}
+use borrow.Author.Tests.{le-leb, lt-leb, lt-ltb, eqb-true, eq-eqb}
+use Rattle.plan_packed.specs.Format.{table, layout}
 use Rattle.plan_packed.specs.Inner.Operands.{tag_of, mask_bits}
 use Rattle.plan_packed.specs.Trees.{nodes, node_of, expression_of}
 use Rattle.plan_packed.specs.Inner.Steps.{Ordered, in_word, tree_in}
@@ -16,7 +15,6 @@ use Rattle.plan_packed.proofs.Walk.{expr_is}
 use Rattle.text.specs.Inner.Wrote.{Wrote}
 use Rattle.text.proofs.Added.{added_none}
 use Rattle.plan_notation.specs.Shown.{shown}
-use Rattle.plan_token_writer.specs.declared.Standing.{Standing}
 use Rattle.plan_token_writer.specs.Inner.Items.{shown_as, item_tokens, tokens_in, row_as, row_items, new_tokens, is_new, stack_of, InContext, weight, Pushed, Stepped}
 use Rattle.plan_token_writer.proofs.Fields.{new_length}
 use Rattle.plan_token_writer.proofs.Later.{row_later}

@@ -1,7 +1,7 @@
 -- The tree's tokens: some are written, the others are those of the items on the stack. Assumes nothing.
-use Prim.Native.Nat.{ℕ, zero, suc, ◌+◌, ◌≤◌, ◌<◌}
+use Prim.Native.Nat.{ℕ, ◌+◌, ◌≤◌, ◌<◌}
 use native.Mathlib.Omega.{arith}
-use mathlib.Core.Path.{◌≡◌, refl, sym, ap, subst, ◌∙◌}
+use mathlib.Core.Path.{◌≡◌, sym, ap, subst, ◌∙◌}
 use mathlib.Core.List.{List, [], ◌∷◌, ◌++◌, append-nil, append_assoc}
 use lib.ListN.{length, length-append}
 use Rattle.plan_packed.specs.Inner.Steps.{Ordered, tree_in}
@@ -9,7 +9,7 @@ use Rattle.text.specs.Inner.Wrote.{Wrote}
 use Rattle.text.proofs.Added.{added_none, added_more, added_as}
 use Rattle.plan_notation.specs.Shown.{loose, shown}
 use Rattle.plan_token_writer.specs.declared.Standing.{Standing}
-use Rattle.plan_token_writer.specs.Inner.Items.{tokens_in, item_rows, stack_of, InContext, Pushed, Running, Stepped}
+use Rattle.plan_token_writer.specs.Inner.Items.{tokens_in, stack_of, InContext, Pushed, Running, Stepped}
 use Rattle.plan_token_writer.proofs.Stepping.{start_context, start_tokens}
 
 -- of these tokens some are written
@@ -35,13 +35,11 @@ starts words o root h area from p e =
     }
 
 -- what a step is given
-pub going : (words : List ℕ) → Ordered words → {ts area₀ : List ℕ} {from : ℕ} {stack : List ℕ} {top : ℕ} {area : List ℕ} {at : ℕ} (rows : List (List ℕ))
-    → rows ≡ item_rows
-    → from + length ts ≤ length area₀ → 0 < top → Writing words ts area₀ from stack top area at → Running words rows stack top area at
-going words o {ts} {area₀} {from} {stack} {top} rows e r h w =
+pub going : (words : List ℕ) → Ordered words → {ts area₀ : List ℕ} {from : ℕ} {stack : List ℕ} {top : ℕ} {area : List ℕ} {at : ℕ}
+    → from + length ts ≤ length area₀ → 0 < top → Writing words ts area₀ from stack top area at → Running words stack top area at
+going words o {ts} {area₀} {from} {stack} {top} r h w =
     record {
       ordered = o;
-      table = e;
       some = h;
       size = omega (arith, w.size, w.wrote.kept);
       contexts = w.contexts;

@@ -73,10 +73,10 @@ fn item(number: usize, word: usize) -> usize
 fn condition_row(tag: usize) -> usize
     ensures { (result ≡ condition_row tag) × (result < 28) }
 {
-    if tag < 13 {
-        return 21;
+    match tag {
+        13..=15 => 9 + tag,
+        _ => 21,
     }
-    if tag < 16 { 9 + tag } else { 21 }
 }
 
 // The row of a tag in a context.
@@ -105,14 +105,13 @@ fn push(stack: &mut [u16], top: usize, item: usize) -> usize
 
 // The items of a row, the first on top.
 fn push_items(stack: &mut [u16], top: usize, rows: &Rows, row: usize, word: usize) -> usize
-    requires { (rows.now ≡ item_rows) × (row < 28) × (top + 6 ≤ length stack.old) }
+    requires { (row < 28) × (top + 6 ≤ length stack.old) }
     ensures { Pushed stack.old top (items_from word row 2 (row_number row 1)) stack.new result }
 {
     let mut next = top;
-    let mut left = rows::number(rows, row, 1);
-    while left > 0 {
-        left -= 1;
-        let number = rows::number(rows, row, 2 + left);
+    let items = rows.number(row, 1);
+    for left in (0..items).rev() {
+        let number = rows.number(row, 2 + left);
         next = push(stack, next, item(number, word));
     }
     next
@@ -127,10 +126,10 @@ fn push_row(
     word: usize,
     level: usize,
 ) -> usize
-    requires { (rows.now ≡ item_rows) × (row < 28) × (top + 8 ≤ length stack.old) }
+    requires { (row < 28) × (top + 8 ≤ length stack.old) }
     ensures { Pushed stack.old top (row_items level word row) stack.new result }
 {
-    if rows::number(rows, row, 0) < level {
+    if rows.number(row, 0) < level {
         let inside = push(stack, top, TOKEN + tokens::CLOSING);
         let next = push_items(stack, inside, rows, row, word);
         return push(stack, next, TOKEN + tokens::OPENING);
@@ -163,10 +162,8 @@ pub fn put_fields(area: &mut [u8], at: usize, mask: usize, first: usize) -> usiz
     ensures { Wrote area.old at (fields_from mask first (32 - first)) area.new result }
 {
     let mut next = at;
-    let mut field = first;
-    while field < 32 {
+    for field in first..32 {
         next = put_field(area, next, mask, field);
-        field += 1;
     }
     next
 }
@@ -193,7 +190,7 @@ struct Standing {
 fn is_new(context: usize, tag: usize) -> bool
     ensures { result ≡ is_new context tag }
 {
-    if context < 4 { tag == tags::NEW } else { false }
+    context < 4 && tag == tags::NEW
 }
 
 // The item on top: a token is written, a `new` too, any other term gives way to the items of its row.
@@ -201,34 +198,30 @@ fn step(
     words: &[usize; 1024],
     rows: &Rows,
     stack: &mut [u16],
-    top: usize,
+    standing: Standing,
     area: &mut [u8],
-    at: usize,
 ) -> Standing
-    requires { Running words.now rows.now stack.old top area.old at }
-    ensures { Stepped words.now area.old at stack.old top area.new stack.new result }
+    requires { Running words.now stack.old standing.top area.old standing.at }
+    ensures { Stepped words.now area.old standing.at stack.old standing.top area.new stack.new result }
 {
-    let below = top - 1;
-    let item = stack[below] as usize;
+    let top = standing.top - 1;
+    let item = stack[top] as usize;
     if item >= TOKEN {
-        let next = text::put_byte(area, at, (item % 256) as u8);
-        return Standing {
-            top: below,
-            at: next,
-        };
+        let at = text::put_byte(area, standing.at, (item % 256) as u8);
+        return Standing { top, at };
     }
     let context = item / 1024;
     let word = words[item % 1024];
     let tag = plan_operands::tag(word);
     if is_new(context, tag) {
-        let next = put_new(area, at, plan_operands::mask_of(word));
-        return Standing {
-            top: below,
-            at: next,
-        };
+        let at = put_new(area, standing.at, plan_operands::mask_of(word));
+        return Standing { top, at };
     }
-    let next = push_row(stack, below, rows, row_as(context, tag), word, context % 4);
-    Standing { top: next, at: at }
+    let top = push_row(stack, top, rows, row_as(context, tag), word, context % 4);
+    Standing {
+        top,
+        at: standing.at,
+    }
 }
 
 // The tree of an expression, behind the tokens that are there, by the rows and a stack that are lent: each item on it has a token, and a row eight items at
@@ -242,16 +235,14 @@ pub fn write_expression(
     from: usize,
 ) -> usize
     requires ordered { Ordered words.now × (root < 1024) }
-    requires rows_value { (rows.now ≡ item_rows) × (length area.old + 8 ≤ length stack.old) }
+    requires stack_size { length area.old + 8 ≤ length stack.old }
     requires root_in_bounds { from + length (shown loose (tree_in words.now root)) ≤ length area.old }
     ensures { Wrote area.old from (shown loose (tree_in words.now root)) area.new result }
 {
-    let mut top = push(stack, 0, root);
-    let mut at = from;
-    while top > 0 {
-        let next = step(words, rows, stack, top, area, at);
-        top = next.top;
-        at = next.at;
+    let top = push(stack, 0, root);
+    let mut standing = Standing { top, at: from };
+    while standing.top > 0 {
+        standing = step(words, rows, stack, standing, area);
     }
-    at
+    standing.at
 }

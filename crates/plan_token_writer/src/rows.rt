@@ -1,15 +1,28 @@
 // The rows: how a term of each tag is written.
-ghost use Rattle.std.specs.Prelude.{◌≡◌, ◌<◌};
+ghost use Rattle.std.specs.Prelude.{◌≡◌, ℕ, ◌<◌, List};
 ghost use Rattle.plan_token_writer.specs.Inner.Items.{item_rows, row_number};
 
 use byte_numbers::wide;
+use std::marker::Model;
 
-pub type Rows = [[u8; 8]; 28];
+// The rows of all tags. They are always those of the definition.
+#[derive(Drop)]
+pub struct Rows {
+    table: [[u8; 8]; 28],
+}
+
+impl Model for Rows {
+    ghost Value = { List (List ℕ) };
+
+    ghost view = { λ rows. rows.table };
+
+    ghost invariant = { λ rows. rows.table ≡ item_rows };
+}
 
 // Eight numbers to a row: how tightly the term binds, from 0 to 3, how many items it has, and these: a token; 70 a slot, 71 a binder, 72 a field, 73 a
 // procedure's number; from 128 on a child, 16 to each operand, with its context; then the number of each column. Expressions come by their tags, with null
 // for a term of another sort; then conditions, a call's arguments, those behind one, and the end of both.
-const ROWS: Rows = [
+const ROWS: [[u8; 8]; 28] = [
     [3, 1, 51, 3, 4, 5, 6, 7], // null
     [3, 1, 70, 3, 4, 5, 6, 7], // variable
     [3, 1, 51, 3, 4, 5, 6, 7], // new, which is written at once
@@ -44,14 +57,15 @@ const ROWS: Rows = [
 pub fn all() -> Rows
     ensures { result ≡ item_rows }
 {
-    ROWS
+    Rows { table: ROWS }
 }
 
-// A number of a row.
-pub fn number(rows: &Rows, row: usize, column: usize) -> usize
-    requires rows_value { rows.now ≡ item_rows }
-    requires row_bound { (row < 28) × (column < 8) }
-    ensures { (result ≡ row_number row column) × (result < 256) }
-{
-    wide(rows[row][column])
+impl Rows {
+    // A number of a row.
+    pub fn number(&self, row: usize, column: usize) -> usize
+        requires { (row < 28) × (column < 8) }
+        ensures { (result ≡ row_number row column) × (result < 256) }
+    {
+        wide(self.table[row][column])
+    }
 }

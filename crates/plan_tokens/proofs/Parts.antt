@@ -1,17 +1,14 @@
 -- The tokens of an accepted plan, part by part. Assumes nothing.
-use Prim.Native.Nat.{ℕ, zero, suc, ◌+◌, ◌-◌, ◌*◌, ◌≤◌, ◌<◌}
+use Prim.Native.Nat.{ℕ, suc, ◌+◌, ◌-◌, ◌*◌, ◌≤◌, ◌<◌}
 use native.Mathlib.Omega.{arith}
 use mathlib.Core.Path.{◌≡◌, refl, sym, ap, ap₂, ◌∙◌}
 use mathlib.Core.List.{List, [], ◌∷◌, ◌++◌, append-nil, append_assoc}
-use mathlib.Core.Option.{none}
 use lib.ListN.{length, length-append}
-use Rattle.format.specs.Version.{version_of}
 use Rattle.plan_packed.specs.Syntax.{Procedure}
 use Rattle.plan_packed.specs.Format
 use Rattle.plan_packed.specs.Format.{version, terms, volatiles, parameters, root, fields_from}
 use Rattle.plan_packed.specs.Inner.Steps.{Right, Ordered, tree_in}
 use Rattle.plan_packed.specs.Trees.{tree_at, procedure_at, procedures_from, program_of}
-use Rattle.plan_packed.specs.Check.{refusal}
 use Rattle.plan_packed.proofs.Accepted.{Accepted, accepted}
 use Rattle.plan_packed.proofs.Passing.{all_right}
 use Rattle.plan_packed.proofs.NodeOrder.{ordered, tree_is}

@@ -1,12 +1,11 @@
 // The tokens of a plan: its version, its volatile fields, main, and the other procedures.
 #![tactic(auto)]
 
-ghost use Rattle.std.specs.Prelude.{◌+◌, ◌-◌, ◌≤◌, ◌<◌, ◌≡◌, length};
+ghost use Rattle.std.specs.Prelude.{◌+◌, ◌-◌, ◌≤◌, ◌<◌, ◌≡◌, [], length, MatchOption};
 ghost use Rattle.plan_packed.specs.Format.{version, fields_from, procedures};
 ghost use Rattle.plan_packed.specs.Trees.{program_of};
 ghost use Rattle.plan_notation.specs.Shown.{volatile_tokens, shown_plan};
 ghost use Rattle.text.specs.Inner.Wrote.{Wrote};
-ghost use Rattle.plan_token_writer.specs.Inner.Items.{item_rows};
 ghost use Rattle.plan_tokens.specs.Inner.Begun.{Given, procedure_head, procedure_alone, header_tokens, procedures_behind, FirstField};
 
 use plan_header::layout;
@@ -14,18 +13,16 @@ use plan_notation::tokens;
 use plan_token_writer::rows::Rows;
 use plan_token_writer::{put_fields, rows, write_expression};
 
-// The first field from field 1 on that the mask has, or 32.
-fn first_field(mask: usize) -> usize
-    ensures { FirstField mask result }
+// The first field from field 1 on that the mask has.
+fn first_field(mask: usize) -> Option<usize>
+    ensures { MatchOption result (fields_from mask 1 31 ≡ []) (FirstField mask) }
 {
-    let mut field = 1;
-    while field < 32 {
+    for field in 1..32 {
         if plan_token_writer::bit(mask, field) == 1 {
-            return field;
+            return Some(field);
         }
-        field += 1;
     }
-    field
+    None
 }
 
 // `volatile` with the fields behind field 0, if there are any.
@@ -33,12 +30,13 @@ fn put_volatiles(area: &mut [u8], at: usize, mask: usize) -> usize
     requires { at + length (volatile_tokens (fields_from mask 1 31)) ≤ length area.old }
     ensures { Wrote area.old at (volatile_tokens (fields_from mask 1 31)) area.new result }
 {
-    let first = first_field(mask);
-    if first == 32 {
-        return at;
+    match first_field(mask) {
+        Some(first) => {
+            let next = text::put_byte(area, at, tokens::VOLATILE as u8);
+            put_fields(area, next, mask, first)
+        }
+        None => at,
     }
-    let next = text::put_byte(area, at, tokens::VOLATILE as u8);
-    put_fields(area, next, mask, first)
 }
 
 // `procedure 1 (2) =`.
@@ -68,7 +66,7 @@ fn put_procedure(
     at: usize,
     procedure: usize,
 ) -> usize
-    requires given { Given plan.now words.now × (rows.now ≡ item_rows) × (length area.old + 8 ≤ length stack.old) }
+    requires given { Given plan.now words.now × (length area.old + 8 ≤ length stack.old) }
     requires procedure_bound { (procedure < procedures plan.now) × (at + length (procedure_alone plan.now procedure) ≤ length area.old) }
     ensures { Wrote area.old at (procedure_alone plan.now procedure) area.new result }
 {
@@ -100,16 +98,14 @@ fn put_procedures(
     from: usize,
     count: usize,
 ) -> usize
-    requires given { Given plan.now words.now × (rows.now ≡ item_rows) × (length area.old + 8 ≤ length stack.old) }
+    requires given { Given plan.now words.now × (length area.old + 8 ≤ length stack.old) }
     requires count_value { count ≡ procedures plan.now }
     requires plan_in_bounds { from + length (procedures_behind plan.now) ≤ length area.old }
     ensures { Wrote area.old from (procedures_behind plan.now) area.new result }
 {
     let mut at = from;
-    let mut procedure = 1;
-    while procedure < count {
+    for procedure in 1..count {
         at = put_procedure(plan, words, rows, stack, area, at, procedure);
-        procedure += 1;
     }
     at
 }

@@ -1,11 +1,11 @@
 -- The room that each step leaves to the next: in the numbers and in the area, whose length stays. Assumes nothing.
-use Prim.Native.Nat.{ℕ, suc, ◌+◌, ◌*◌, ◌≤◌, ◌<◌}
+use Prim.Native.Nat.{ℕ, ◌+◌, ◌*◌, ◌≤◌, ◌<◌}
 use native.Mathlib.Omega.{arith}
 use mathlib.Core.Path.{◌≡◌, ap, ◌∙◌}
 use mathlib.Core.List.{List}
 use lib.ListN.{length}
 use lib.Seq.{sets, length-sets}
-use Rattle.plan_written.specs.Terms.{TermTree, size, words_from}
+use Rattle.plan_written.specs.Terms.{TermTree, words_from}
 use Rattle.plan_written.specs.Written.{bytes_of, word_bytes}
 use Rattle.plan_written.proofs.Named.{size_pos}
 use Rattle.plan_tree_writer.specs.Inner.Left.{Room, Wrote}

@@ -2,9 +2,9 @@
 use Prim.Native.Nat.{ℕ, suc, ◌+◌}
 use native.Mathlib.Nat.{add-zero}
 use native.Mathlib.Omega.{arith}
-use mathlib.Core.Path.{◌≡◌, refl, sym, ap, ◌∙◌}
-use mathlib.Core.List.{List, [], ◌∷◌, ◌++◌, append-nil, append_assoc}
-use Rattle.plan_written.specs.Terms.{TermTree, term, Part, value, child, size, size_of, value_at, word_of, words_from, words_below}
+use mathlib.Core.Path.{◌≡◌, refl, ap, ◌∙◌}
+use mathlib.Core.List.{List, [], ◌∷◌, ◌++◌, append-nil}
+use Rattle.plan_written.specs.Terms.{TermTree, term, value, child, size, value_at, word_of, words_from}
 
 -- a tree without children, of this word
 pub record Leaf (e : TermTree) (w : ℕ) : Type 0 where

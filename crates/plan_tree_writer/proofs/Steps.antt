@@ -1,17 +1,15 @@
 -- What is written of a tree and what is left, step by step: the parent's word comes after the words of all its children but the last. Assumes nothing.
-use Prim.Native.Nat.{ℕ, suc, ◌+◌, ◌*◌, ◌≤◌, ◌<◌}
+use Prim.Native.Nat.{ℕ, suc, ◌+◌, ◌*◌, ◌<◌}
 use native.Mathlib.Omega.{arith}
-use mathlib.Core.Path.{◌≡◌, refl, sym, ap, subst, ◌∙◌}
+use mathlib.Core.Path.{◌≡◌, refl, sym, ap, ◌∙◌}
 use mathlib.Core.List.{List, [], ◌∷◌, ◌++◌, append-nil, append_assoc}
 use lib.ListN.{length}
-use lib.Seq.{sets, length-sets}
+use lib.Seq.{sets}
 use Rattle.plan_written.specs.Terms.{TermTree, size, words_from}
 use Rattle.plan_written.specs.Written.{bytes_of, word_bytes}
 use Rattle.plan_written.proofs.Bytes.{bytes_length, words_length, words_append}
-use Rattle.plan_written.proofs.Named.{size_pos}
 use Rattle.plan_written.proofs.ReadBack.{tree_length}
-use Rattle.plan_tree_writer.specs.Inner.Left.{Room, after, Wrote, finished, end_of, After, Going}
-use Rattle.plan_tree_writer.specs.declared.Left.{Left}
+use Rattle.plan_tree_writer.specs.Inner.Left.{after, Wrote, finished, end_of, Going}
 use Rattle.plan_tree_writer.specs.declared.Left.TheVariants.{Done, At}
 use Rattle.plan_tree_writer.proofs.Areas.{sets_append, sets_apart}
 use Rattle.plan_tree_writer.proofs.Shapes.{Leaf, One, Two, Three}

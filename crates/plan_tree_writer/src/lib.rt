@@ -21,27 +21,17 @@ enum Left {
 fn has_one(tag: usize) -> bool
     ensures { result ≡ has_key singles tag }
 {
-    match tag {
-        tags::READ => true,
-        tags::FORK => true,
-        tags::JOIN => true,
-        tags::WAIT => true,
-        tags::NOTIFY => true,
-        tags::NOTIFY_ALL => true,
-        _ => false,
-    }
+    matches!(
+        tag,
+        tags::READ | tags::FORK | tags::JOIN | tags::WAIT | tags::NOTIFY | tags::NOTIFY_ALL
+    )
 }
 
 // It has two, both expressions.
 fn has_two(tag: usize) -> bool
     ensures { result ≡ has_key pairs tag }
 {
-    match tag {
-        tags::WRITE => true,
-        tags::LET => true,
-        tags::SYNCH => true,
-        _ => false,
-    }
+    matches!(tag, tags::WRITE | tags::LET | tags::SYNCH)
 }
 
 // The first child of an expression with two.

@@ -1,9 +1,9 @@
 -- The stores of a number of two bytes, and of four. Assumes nothing.
-use Prim.Native.Nat.{ℕ, suc, ◌+◌, ◌/◌, ◌%◌}
+use Prim.Native.Nat.{ℕ}
 use native.Mathlib.Omega.{arith}
 use mathlib.Core.Path.{◌≡◌, sym, ap, ◌∙◌}
 use mathlib.Core.List.{List, ◌++◌}
-use lib.ListN.{length, set}
+use lib.ListN.{length}
 use lib.Seq.{sets, length-sets}
 use Rattle.plan_written.specs.Written.{bytes_of}
 use Rattle.plan_written.proofs.Bytes.{bytes_length}
@@ -13,29 +13,8 @@ use Rattle.plan_tree_writer.proofs.Areas.{sets_append}
 sets_keeps : (area bytes : List ℕ) (i : ℕ) {area₁ : List ℕ} → area₁ ≡ sets area i bytes → length area₁ ≡ length area
 sets_keeps area bytes i e = ap length e ∙ length-sets area i bytes
 
--- ---- two bytes
-
-pub two_bytes : (area : List ℕ) (at w : ℕ) → set (set area at (w / 256 % 256)) (at + 1) (w % 256) ≡ sets area at (bytes_of 2 w)
-unfolding bytes_of
-two_bytes area at w =
-    let one : at + 1 ≡ suc at = omega arith in
-    let last : w % 256 ≡ w / 1 % 256 = omega arith in
-    rw (one, last)
-
 pub two_keeps : (area : List ℕ) (i w : ℕ) {area₁ : List ℕ} → area₁ ≡ sets area i (bytes_of 2 w) → length area₁ ≡ length area
 two_keeps area i w = sets_keeps area (bytes_of 2 w) i
-
--- ---- four bytes
-
-pub four_bytes : (area : List ℕ) (at w : ℕ)
-    → set (set (set (set area at (w / 16777216 % 256)) (at + 1) (w / 65536 % 256)) (at + 2) (w / 256 % 256)) (at + 3) (w % 256) ≡ sets area at (bytes_of 4 w)
-unfolding bytes_of
-four_bytes area at w =
-    let one : at + 1 ≡ suc at = omega arith in
-    let two : at + 2 ≡ suc (suc at) = omega arith in
-    let three : at + 3 ≡ suc (suc (suc at)) = omega arith in
-    let last : w % 256 ≡ w / 1 % 256 = omega arith in
-    rw (one, two, three, last)
 
 pub four_keeps : (area : List ℕ) (i w : ℕ) {area₁ : List ℕ} → area₁ ≡ sets area i (bytes_of 4 w) → length area₁ ≡ length area
 four_keeps area i w = sets_keeps area (bytes_of 4 w) i

@@ -7,16 +7,7 @@ ghost use Rattle.format.specs.Area.{overwrite};
 ghost use Rattle.plan_written.specs.Written.{bytes_of, written};
 ghost use Rattle.plan_writer.specs.Inner.Held.{held_program, Writable};
 
-// A number's last four bytes.
-fn put_four(area: &mut [u8], at: usize, number: usize)
-    requires { at + 4 ≤ length area.old }
-    ensures { area.new ≡ sets area.old at (bytes_of 4 number) }
-{
-    area[at] = (number / 16777216 % 256) as u8;
-    area[at + 1] = (number / 65536 % 256) as u8;
-    area[at + 2] = (number / 256 % 256) as u8;
-    area[at + 3] = (number % 256) as u8;
-}
+use plan_packing::put_bytes;
 
 // The header and the mask.
 fn put_header(area: &mut [u8], version: usize, mask: usize, procedures: usize, terms: usize)
@@ -24,8 +15,8 @@ fn put_header(area: &mut [u8], version: usize, mask: usize, procedures: usize, t
     requires version_bound { (version ≤ 1) × (procedures ≤ 32) × (terms ≤ 1024) }
     ensures { area.new ≡ sets area.old 0 (bytes_of 4 (((version * 64 + procedures) * 4096 + terms) * 1024) ++ bytes_of 4 mask) }
 {
-    put_four(area, 0, ((version * 64 + procedures) * 4096 + terms) * 1024);
-    put_four(area, 4, mask);
+    put_bytes::<4>(area, 0, ((version * 64 + procedures) * 4096 + terms) * 1024);
+    put_bytes::<4>(area, 4, mask);
 }
 
 // The two bytes of a procedure.
@@ -34,9 +25,7 @@ pub fn put_procedure(area: &mut [u8], at: usize, parameters: usize, root: usize)
     requires parameters_bound { (parameters < 16) × (root < 4096) }
     ensures { area.new ≡ sets area.old at (bytes_of 2 (parameters * 4096 + root)) }
 {
-    let word = parameters * 4096 + root;
-    area[at] = (word / 256 % 256) as u8;
-    area[at + 1] = (word % 256) as u8;
+    put_bytes::<2>(area, at, parameters * 4096 + root)
 }
 
 // The program of this version and mask, and of so many procedures and terms: its header, its procedures in their order, each with the number of its root, and
@@ -57,13 +46,11 @@ pub fn write(
 {
     put_header(area, version, mask, procedures, terms);
     let base = 8 + 2 * procedures;
-    let mut procedure = 0;
     let mut number = 0;
-    while procedure < procedures {
+    for procedure in 0..procedures {
         let parameters = counts[procedure];
         let root = roots[procedure];
         put_procedure(area, 8 + 2 * procedure, parameters, number);
         number = plan_tree_writer::write_expression(words, root, area, base, number);
-        procedure += 1;
     }
 }

@@ -18,8 +18,9 @@ use Rattle.plan_parsing.proofs.PlanRight.{text_passes}
 use Rattle.read.specs.Read as texts
 use Rattle.read.specs.Read.{Failure, too_many, short_for_plan, failed_at, answer_by, area_by, read_answer, read_area}
 use Rattle.read.specs.Answer.{failure_of, answered}
-use Rattle.read.specs.declared.ReadAnswer.{ReadAnswer}
-use Rattle.read.specs.declared.ReadAnswer.TheVariants.{Written, Short, Failed}
+use Rattle.std.specs.Prelude.{Result, Ok, Err}
+use Rattle.read.specs.declared.ReadError.{ReadError}
+use Rattle.read.specs.declared.ReadError.TheVariants.{Short, Failed}
 use Rattle.text_plan_words.proofs.Areas.{plan_few}
 use Rattle.plancheck_words.specs.Given.{Given, plan, no_plan, no_plan_at, plan_by, text_plan}
 
@@ -58,18 +59,18 @@ module _ (text area : List ℕ) (size : length area ≡ 5192) where
   means = by_count (too_many text) refl
 
   -- by the answer of the code
-  module _ (x : ReadAnswer) (after : List ℕ) (h : answered x ≡ read_answer text area) (k : after ≡ read_area text area) where
+  module _ (x : Result ℕ ReadError) (after : List ℕ) (h : answered x ≡ read_answer text area) (k : after ≡ read_area text area) where
     so : Means (answered x) after
     so = rw (h, k) means
 
-    pub written_means : (n : ℕ) → x ≡ Written n → (n ≤ 5192) × (text_plan text ≡ plan (take (n - 0) after))
+    pub written_means : (n : ℕ) → x ≡ Ok n → (n ≤ 5192) × (text_plan text ≡ plan (take (n - 0) after))
     written_means n e =
-        let m = subst (λ (y : ReadAnswer). Means (answered y) after) e so in
+        let m = subst (λ (y : Result ℕ ReadError). Means (answered y) after) e so in
         let z : n - 0 ≡ n = omega arith in
         (m.0, rw z m.1)
 
-    pub short_means : x ≡ Short → ⊥
-    short_means e = subst (λ (y : ReadAnswer). Means (answered y) after) e so
+    pub short_means : x ≡ Err Short → ⊥
+    short_means e = subst (λ (y : Result ℕ ReadError). Means (answered y) after) e so
 
-    pub failed_means : (l c kind reason : ℕ) → x ≡ Failed l c kind reason → text_plan text ≡ no_plan l c (failure_of kind reason)
-    failed_means l c kind reason e = subst (λ (y : ReadAnswer). Means (answered y) after) e so
+    pub failed_means : (l c kind reason : ℕ) → x ≡ Err (Failed l c kind reason) → text_plan text ≡ no_plan l c (failure_of kind reason)
+    failed_means l c kind reason e = subst (λ (y : Result ℕ ReadError). Means (answered y) after) e so

@@ -7,7 +7,8 @@ ghost use Rattle.plancheck_words.specs.Words.{Says, Answers};
 ghost use Rattle.plancheck_words.specs.Given.{text_plan};
 ghost use Rattle.plancheck_words.specs.Area.{Answered};
 
-use read::ReadAnswer;
+use read::ReadError;
+use refusals::Reason;
 use text_inputs::plans;
 use text_run_words::told;
 
@@ -56,10 +57,13 @@ fn read_text(word: Word, text: &[u8], schedule: &[u8], area: &mut [u8]) -> usize
 {
     let mut plan = [0u8; 5192];
     let answer = read::read(text, &mut plan);
-    match answer {
-        ReadAnswer::Written(length) => packed_text(word, &plan[0..length], schedule, area),
-        ReadAnswer::Short => text_refusal_lines::put_refusal_lines(area, 0, 26, 0),
-        ReadAnswer::Failed {
+    let error = match answer {
+        Ok(length) => return packed_text(word, &plan[0..length], schedule, area),
+        Err(error) => error,
+    };
+    match error {
+        ReadError::Short => text_answer_lines::put_refusal(area, Reason::ReadArea.at(0)),
+        ReadError::Failed {
             line,
             column,
             kind,

@@ -3,7 +3,7 @@ use Prim.Native.Nat.{ℕ}
 use mathlib.Core.Path.{◌≡◌, sym, ◌∙◌, subst as along}
 use mathlib.Core.List.{List}
 use Rattle.plan_packed.specs.Trees.{program_of}
-use Rattle.plan_refusals.specs.declared.Checked.TheVariants as checked
+use Rattle.std.specs.Prelude.{Ok}
 use Rattle.plan_refusals.proofs.Stages.{passed_refused}
 use Rattle.rules.specs.Run as run
 use Rattle.rules.specs.Run.{log}
@@ -36,7 +36,7 @@ executed_on plan schedule area p h after left e =
     }
 
 -- the contract of `play`, where nothing refuses it
-pub ran_whole : (plan schedule area : List ℕ) (p : Played) (after : List ℕ) → p.checked ≡ checked.Passed
+pub ran_whole : (plan schedule area : List ℕ) (p : Played) (after : List ℕ) → p.checked ≡ Ok tt
     → answered p ≡ played plan schedule area → after ≡ area_after plan schedule area
     → (answered p ≡ played plan schedule area) × ((after ≡ area_after plan schedule area) × (NoRunIfRefused p × ExecutedIfPassed plan schedule area after p))
-ran_whole plan schedule area p after e h left = (h, (left, (λ k i q. passed_refused e q, executed_on plan schedule area p h after left)))
+ran_whole plan schedule area p after e h left = (h, (left, (λ r q. passed_refused e q, executed_on plan schedule area p h after left)))

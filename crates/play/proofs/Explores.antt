@@ -1,15 +1,14 @@
 -- The code's run that goes on behind its picks is the defined one of all its picks. Assumes nothing.
-use Prim.Native.Nat.{ℕ, ◌+◌, ◌-◌, ◌*◌, ◌/◌, ◌≤◌, ◌<◌, min}
+use Prim.Native.Nat.{ℕ, ◌+◌, ◌-◌, ◌*◌, ◌≤◌, ◌<◌, min}
 use native.Mathlib.Decide.{dec_lt}
 use native.Mathlib.Omega.{arith}
-use mathlib.Core.Path.{◌≡◌, refl, sym, ap, ◌∙◌, subst as along}
+use mathlib.Core.Path.{◌≡◌, refl, ap, ◌∙◌, subst as along}
 use mathlib.Core.Bool.{Bool, false}
 use mathlib.Core.List.{List}
 use lib.ListN.{length, get_or, take, length-take}
 use lib.Seq.{get_or-take, take-length}
 use Rattle.plan_packed.specs.Format.{version, procedures, volatiles}
 use Rattle.run_outcome.specs.declared.Outcome.{Outcome}
-use Rattle.run_state.specs.declared.Setting.{Setting}
 use Rattle.run_engine.specs.Inner.Engine.{start_of}
 use Rattle.run_engine.specs.declared.Explored.{Explored}
 use Rattle.run_engine.specs.Inner.Exploring.{all_picks, NotedAt, first_run, ExploredOn}
@@ -17,7 +16,7 @@ use Rattle.run_engine.proofs.AllPicks.{length_all, given_at, noted_at, unnoted}
 use Rattle.refinement.proofs.States.{setting_of}
 use Rattle.play.specs.Inner.Roots.{Roots}
 use Rattle.play.specs.Inner.RunOn.{Given, RunBy, OutcomeOf, Notable, ExploredBy}
-use Rattle.play.proofs.Answers.{RanAs, run_on, outcome_defined}
+use Rattle.play.proofs.Answers.{run_on, outcome_defined}
 
 module _ (plan ws rs picks area notes noted after : List ℕ) (given : Given plan ws picks area) (fits : Notable notes area)
     (roots : Roots plan (procedures plan) rs) (r : Explored) where

@@ -7,7 +7,7 @@ use lib.ListN.{length}
 use Rattle.plan_packed.specs.Syntax.{Program}
 use Rattle.plan_packed.specs.Trees.{program_of}
 use Rattle.plan_packed.proofs.Decoded.{well_formed}
-use Rattle.plan_refusals.specs.declared.Checked.TheVariants as checked
+use Rattle.std.specs.Prelude.{Ok}
 use Rattle.rules.specs.State.{State}
 use Rattle.rules.specs.Run as run
 use Rattle.rules.specs.Run.{Run, stopped, after_pass, after_move, instances}
@@ -27,7 +27,7 @@ few (no_room_lem h e) = (omega arith, omega arith)
 few (moves h k x) = let d = few x in (omega arith, omega arith)
 
 -- of a play that the entry does not refuse
-module _ (plan schedule area : List ℕ) (p : Played) (h : answered p ≡ played plan schedule area) (e : p.checked ≡ checked.Passed) where
+module _ (plan schedule area : List ℕ) (p : Played) (h : answered p ≡ played plan schedule area) (e : p.checked ≡ Ok tt) where
   pub moves_are : p.outcome.moves ≡ length (instances (run_of plan schedule))
   unfolding outcome_of run.outcome_of
   moves_are = ap (λ (o : run.Outcome). o.moves) (ran.outcome_is plan schedule area p h e)

@@ -12,8 +12,8 @@ use Rattle.format.specs.Area.{overwrite}
 use Rattle.format.proofs.AreaLaws.{overwrite_first, overwrite_covers}
 use Rattle.plan_packed.specs.Trees.{program_of}
 use Rattle.plan_packed.proofs.Decoded.{well_formed}
-use Rattle.plan_refusals.specs.declared.Checked.{Checked}
-use Rattle.plan_refusals.specs.declared.Checked.TheVariants as checked
+use Rattle.std.specs.Prelude.{Ok}
+use Rattle.plan_refusals.proofs.Stages.{Checked}
 use Rattle.log_records.specs.Packed.{bytes_of}
 use Rattle.log_records.proofs.RoundTrip.{length_bytes}
 use Rattle.rules.specs.Run as run
@@ -54,7 +54,7 @@ module _ (plan schedule area : List ℕ) (o : run.Outcome) (h : play.Played.ran 
   ran_area = ap (area_by plan schedule area) not_refused
 
 -- what the entry answers
-module _ (plan schedule area : List ℕ) (p : Played) (h : answered p ≡ played plan schedule area) (e : p.checked ≡ checked.Passed) where
+module _ (plan schedule area : List ℕ) (p : Played) (h : answered p ≡ played plan schedule area) (e : p.checked ≡ Ok tt) where
   pub ran_is : play.Played.ran (outcome_of p.outcome) ≡ played plan schedule area
   unfolding answered
   ran_is = ap (λ (y : Checked). answered_by y p.outcome) (sym e) ∙ h

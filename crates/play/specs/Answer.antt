@@ -1,5 +1,5 @@
 -- What the entry's answer says: document 01's words for each case, and those of document 02, E3. Assumes nothing.
-use Rattle.std.specs.Prelude.{ℕ, ◌≡◌, map, replicate}
+use Rattle.std.specs.Prelude.{◌≡◌, map, replicate, Result, Ok, Err}
 use Rattle.rules.specs.Step as step
 use Rattle.rules.specs.Room as rules
 use Rattle.rules.specs.Run as run
@@ -17,8 +17,8 @@ use Rattle.run_outcome.specs.declared.ThreadState.TheVariants as state
 use Rattle.run_outcome.specs.declared.Thread.{Thread}
 use Rattle.run_outcome.specs.declared.Outcome.{Outcome}
 use Rattle.play.specs.declared.outcome.Played.{Played}
-use Rattle.plan_refusals.specs.declared.Checked.{Checked}
-use Rattle.plan_refusals.specs.declared.Checked.TheVariants as checked
+use Rattle.refusals.specs.declared.Refusal.{Refusal}
+use Rattle.refusals.specs.Numbers.{refusal_of}
 
 -- "no room (thread, object, key, depth)"
 unfoldable pub room_of : NoRoom → rules.Room
@@ -71,9 +71,9 @@ outcome_of x = record {
 }
 
 -- "A refused play has no run."
-abbrev pub answered_by : Checked → Outcome → play.Played
-answered_by checked.Passed x = play.Played.ran (outcome_of x)
-answered_by (checked.Refused k i) x = play.Played.refused (record { number = k; place = i })
+abbrev pub answered_by : Result (Unit {0}) Refusal → Outcome → play.Played
+answered_by (Ok u) x = play.Played.ran (outcome_of x)
+answered_by (Err r) x = play.Played.refused (refusal_of r)
 
 -- what `play` answers: a refusal, or an outcome
 unfoldable pub answered : Played → play.Played
@@ -86,4 +86,4 @@ no_run = record { stop = stop.End; picks = 0; moves = 0; records = 0; threads = 
 
 -- that is the outcome of a refused play
 abbrev pub NoRunIfRefused : Played → Type 0
-NoRunIfRefused r = (k i : ℕ) → r.checked ≡ checked.Refused k i → r.outcome ≡ no_run
+NoRunIfRefused p = (r : Refusal) → p.checked ≡ Err r → p.outcome ≡ no_run

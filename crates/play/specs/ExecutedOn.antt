@@ -1,7 +1,6 @@
 -- Demand 2 of the running code: what the entry `play` answers of a play that is not refused, and the log area that it leaves. Assumes nothing.
-use Rattle.std.specs.Prelude.{ℕ, ◌≡◌, List}
+use Rattle.std.specs.Prelude.{ℕ, ◌≡◌, List, Ok}
 use Rattle.plan_packed.specs.Trees.{program_of}
-use Rattle.plan_refusals.specs.declared.Checked.TheVariants as checked
 use Rattle.log_records.specs.Record.{Record}
 use Rattle.log_records.specs.Packed.{bytes_of}
 use Rattle.rules.specs.Executed.{Executed}
@@ -19,4 +18,4 @@ pub record ExecutedOn (plan schedule before after : List ℕ) (r : Played) : Typ
 
 -- of the answer r to a play of the schedule on the plan
 abbrev pub ExecutedIfPassed : (plan schedule before after : List ℕ) → Played → Type 0
-ExecutedIfPassed plan schedule before after r = r.checked ≡ checked.Passed → ExecutedOn plan schedule before after r
+ExecutedIfPassed plan schedule before after r = r.checked ≡ Ok tt → ExecutedOn plan schedule before after r

@@ -12,7 +12,6 @@ ghost use Rattle.play.specs.Inner.RunOn.{Given, RunBy, Notable, ExploredBy};
 
 use crate::outcome::Played;
 use plan_header::layout;
-use plan_refusals::Checked;
 use run_engine::Explored;
 use run_state::Setting;
 use run_tally::Ran;
@@ -23,10 +22,8 @@ fn roots(plan: &[u8], procedures: usize) -> [usize; 32]
     ensures { Roots plan.now procedures result }
 {
     let mut all = [0usize; 32];
-    let mut procedure = 0;
-    while procedure < procedures {
+    for procedure in 0..procedures {
         all[procedure] = layout::root(plan, procedure);
-        procedure += 1;
     }
     all
 }
@@ -49,10 +46,7 @@ pub fn explore(
     let roots = roots(plan, procedures);
     let mask = layout::volatiles(plan);
     let version = layout::version(plan);
-    let setting = Setting {
-        mask: mask,
-        version: version,
-    };
+    let setting = Setting { mask, version };
     run_engine::explore(words, &roots, setting, every, picks, notes, log)
 }
 
@@ -76,13 +70,10 @@ pub fn play(plan: &[u8], schedule: &[u8], log: &mut [u8]) -> Played
 {
     let mut words = [0usize; 1024];
     let checked = run_refusals::refusal(plan, schedule, log.len(), &mut words);
-    let Checked::Passed = checked else {
+    let Ok(()) = checked else {
         return outcome::refused(checked);
     };
     let ran = run(plan, &words, false, schedule, log);
     let outcome = ran.outcome;
-    Played {
-        checked: checked,
-        outcome: outcome,
-    }
+    Played { checked, outcome }
 }

@@ -2,18 +2,18 @@
 ghost use Rattle.std.specs.Prelude.{◌*◌, ◌≤◌, ◌≡◌};
 ghost use Rattle.play.specs.Answer.{no_run};
 
-use plan_refusals::Checked;
+use refusals::Refusal;
 use run_outcome::{Outcome, Stop, Thread, ThreadState};
 
 // What a play answers: what refused it, or that nothing did; then the run's outcome, or that of no run.
 #[derive(Clone, Copy)]
 pub struct Played {
-    pub checked: Checked,
+    pub checked: Result<(), Refusal>,
     pub outcome: Outcome,
 }
 
 // A refused play has no run.
-pub fn refused(checked: Checked) -> Played
+pub fn refused(checked: Result<(), Refusal>) -> Played
     ensures checked_value { result.checked ≡ checked }
     ensures outcome_value { result.outcome ≡ no_run }
 {
@@ -27,12 +27,9 @@ pub fn refused(checked: Checked) -> Played
         picks: 0,
         moves: 0,
         records: 0,
-        threads: threads,
+        threads,
     };
-    Played {
-        checked: checked,
-        outcome: outcome,
-    }
+    Played { checked, outcome }
 }
 
 // The bytes of so many records.

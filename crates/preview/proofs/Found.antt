@@ -36,11 +36,11 @@ use Rattle.play.specs.Answer.{room_of, stop_of, status_of, outcome_of}
 use Rattle.play.specs.Inner.RunOn.{Given, RunOn}
 use Rattle.play.proofs.Threads.{status_of_lem}
 use Rattle.text.specs.Inner.Wrote.{Wrote}
-use Rattle.run_last_pick.specs.declared.Previewed.{Previewed}
+use Rattle.run_last_pick.specs.declared.Preview as code
 use Rattle.preview.specs.Preview as preview
 use Rattle.preview.specs.Preview.{Preview, shown_after, with_pick}
 use Rattle.preview.specs.PlaysAs.{one_pick_more, stopped_next, PlaysAs, STOPPED, PASSED, MOVED, RACE, NO-ROOM}
-use Rattle.preview.specs.Answer.{bytes_in, record_of, answered, BytesAsLogged, AsLogged}
+use Rattle.preview.specs.Answer.{bytes_in, record_of, preview_of, BytesAsLogged, LoggedAs}
 use Rattle.run_last_pick.specs.Inner.LastPick.{record_in, last_record, last_pick, LastGiven}
 use Rattle.preview.proofs.PlaysAs.{stopped_next_lem, preview_plays}
 use Rattle.run_last_pick.proofs.LastPick.{early, full, raced, passed, moved, recorded}
@@ -105,13 +105,13 @@ module _ (L : List Record) (area after : List ℕ) (left : after ≡ overwrite (
 -- ---- the run of the schedule with the pick added
 
 -- what its last pick did
-abbrev last_of : Ran → ℕ → ℕ → List ℕ → Previewed
+abbrev last_of : Ran → ℕ → ℕ → List ℕ → code.Preview
 last_of r = last_pick r.outcome r.before.moves r.before.records
 
 -- what follows of it
 pub record Found (r : Ran) (schedule : List ℕ) (pick : ℕ) (after : List ℕ) (x : Preview) : Type 0 where
-  pub answer : answered (last_of r (length schedule) pick after) ≡ preview.Previewed.shows x
-  pub as_logged : AsLogged (last_of r (length schedule) pick after)
+  pub answer : preview_of (last_of r (length schedule) pick after) ≡ x
+  pub as_logged : LoggedAs (last_of r (length schedule) pick after)
   pub raced_once : length schedule ≤ r.outcome.picks → r.outcome.stop ≡ stop.Race → 1 ≤ r.outcome.records
 
 -- the pick is one of eight threads
@@ -218,9 +218,9 @@ module _ (plan schedule : List ℕ) (pick : ℕ) (ws area : List ℕ) (given : G
   next ms s = record { stop = run.Stop.end; picks = 1; moves = ms; lacked = none; final = s }
 
   -- by what the code finds
-  found_as : (y : Previewed) (x : Preview) → last_of r n pick after ≡ y → answered y ≡ preview.Previewed.shows x → AsLogged y
+  found_as : (y : code.Preview) (x : Preview) → last_of r n pick after ≡ y → preview_of y ≡ x → LoggedAs y
       → (n ≤ r.outcome.picks → r.outcome.stop ≡ stop.Race → 1 ≤ r.outcome.records) → Found r schedule pick after x
-  found_as y x e a l o = record { answer = ap answered e ∙ a; as_logged = along AsLogged (sym e) l; raced_once = o }
+  found_as y x e a l o = record { answer = ap preview_of e ∙ a; as_logged = along LoggedAs (sym e) l; raced_once = o }
 
   -- no race
   ended_once : r.outcome.stop ≡ stop.End → n ≤ r.outcome.picks → r.outcome.stop ≡ stop.Race → 1 ≤ r.outcome.records
@@ -234,11 +234,11 @@ module _ (plan schedule : List ℕ) (pick : ℕ) (ws area : List ℕ) (given : G
   one_more_lem h = omega (arith, all_dealt h)
 
   pub found : (x : Preview) (t : Run) → t ≡ longer → PlaysAs (program_of plan) pick shorter x t → Found r schedule pick after x
-  unfolding answered instances log stopped
+  unfolding preview_of instances log stopped
   found x t same (STOPPED h) =
       let few : r.outcome.picks < n = omega (arith, short h, picks_are _ same) in
       found_as _ _ (early r.outcome r.before.moves r.before.records n pick after few)
-      (ap (λ (e : run.Stop). preview.Previewed.shows (Preview.stopped e)) (stop_is _ same)) tt (λ q e. absurd (omega arith))
+      (ap (λ (e : run.Stop). Preview.stopped e) (stop_is _ same)) tt (λ q e. absurd (omega arith))
   found x t same (PASSED {a} h p) =
       let e : r.outcome.stop ≡ stop.End = ended _ (stop_is _ same) in
       let None-more = more_instances (next [] shorter.final) in
@@ -248,7 +248,7 @@ module _ (plan schedule : List ℕ) (pick : ℕ) (ws area : List ℕ) (given : G
       ∙ ap (λ (z : State). status (attempt (program_of plan) z pick)) (ap (λ (u : Run). u.final) (sym same))
       ∙ ap status (complete_passed (program_of plan) shorter.final pick p) in
       found_as _ _ (passed r.outcome r.before.moves r.before.records n pick after (omega (arith, picks_are _ same, one_more_lem h)) e m)
-      (ap (λ (z : Status). preview.Previewed.shows (Preview.passed z)) y) tt (ended_once e)
+      (ap (λ (z : Status). Preview.passed z) y) tt (ended_once e)
   found x t same (MOVED {R} {e = none} {s'} h m k) =
       let e : r.outcome.stop ≡ stop.End = ended _ (stop_is _ same) in
       let u : Run = next (record { thread = pick; rule = R; entry = none } ∷ []) s' in
@@ -265,19 +265,19 @@ module _ (plan schedule : List ℕ) (pick : ℕ) (ws area : List ℕ) (given : G
       found_as _ _ (recorded r.outcome r.before.moves r.before.records n pick after (omega (arith, picks_are _ same, one_more_lem h)) q
       (λ q. omega (arith, q, grown, moves_are _ same, moves_before _ same (one_more_lem h)))
       (λ q. omega (arith, q, last_index _ same e last, records_before _ same (one_more_lem h))))
-      (ap (λ (z : Record). preview.Previewed.shows (Preview.moved (some z))) (last_is _ same e last))
+      (ap (λ (z : Record). Preview.moved (some z)) (last_is _ same e last))
       (last_bytes _ same e last) (ended_once q)
   found x t same (RACE {e} h l) =
       let last : log (stopped_next shorter run.Stop.race (some e)) ≡ log shorter ++ (e ∷ []) =
       ap log (stopped_next_lem shorter run.Stop.race (some e)) ∙ more_log (stopped run.Stop.race (some e) shorter.final) h in
       found_as _ _ (raced r.outcome r.before.moves r.before.records n pick after
       (omega (arith, picks_are _ same, all_dealt h)) (lacked _ (stop_is _ same)))
-      (ap (λ (z : Record). preview.Previewed.shows (Preview.race z)) (last_is _ same e last))
+      (ap (λ (z : Record). Preview.race z) (last_is _ same e last))
       (last_bytes _ same e last) (λ q y. omega (arith, last_index _ same e last))
   found x t same (NO-ROOM {k = k} h m q) =
       let w = no_room_lem _ k (stop_is _ same) in
       found_as _ _ (full r.outcome r.before.moves r.before.records n pick after (omega (arith, picks_are _ same, all_dealt h)) w.0 w.1)
-      (ap (λ (z : Room). preview.Previewed.shows (Preview.no_room z)) w.2) tt (full_once w.0 w.1)
+      (ap (λ (z : Room). Preview.no_room z) w.2) tt (full_once w.0 w.1)
 
   -- what the code answers
   pub shown_found : Found r schedule pick after (shown_after (program_of plan) shorter pick)

@@ -9,8 +9,8 @@ ghost use Rattle.preview.specs.PlaysAs.{PlaysIfShown};
 ghost use Rattle.preview.specs.Answer.{answered, AsLogged};
 ghost use Rattle.preview.specs.Inner.Shown.{inner_log, Shown};
 
-use plan_refusals::Checked;
-use run_last_pick::{Previewed, last_pick};
+use refusals::Refusal;
+use run_last_pick::{Preview, last_pick};
 
 // The schedule and this pick behind it, at the start of an area; how many picks that makes.
 fn add_pick(picks: &mut [u8], schedule: &[u8], pick: u8) -> usize
@@ -22,7 +22,7 @@ fn add_pick(picks: &mut [u8], schedule: &[u8], pick: u8) -> usize
 }
 
 // The preview of a pick that nothing refuses, by one run of the schedule with the pick added, on arrays that nobody else sees.
-fn shown(plan: &[u8], words: &[usize; 1024], schedule: &[u8], pick: usize) -> Previewed
+fn shown(plan: &[u8], words: &[usize; 1024], schedule: &[u8], pick: usize) -> Preview
     requires { Given plan.now words.now (with_pick schedule.now pick) inner_log }
     ensures { Shown plan.now schedule.now pick result }
 {
@@ -43,15 +43,12 @@ fn shown(plan: &[u8], words: &[usize; 1024], schedule: &[u8], pick: usize) -> Pr
 
 // Every plan, schedule and pick gets E1's answer: a refusal of number 1 to 9 with its place; or what the pick would do after the schedule, which is what
 // playing the schedule with the pick added does. Nothing is lent, and nothing changes.
-pub fn preview(plan: &[u8], schedule: &[u8], pick: usize) -> Previewed
+pub fn preview(plan: &[u8], schedule: &[u8], pick: usize) -> Result<Preview, Refusal>
     ensures answer { answered result ≡ previewed plan.now schedule.now pick }
     ensures plays { PlaysIfShown plan.now schedule.now pick (answered result) }
     ensures logged { AsLogged result }
 {
     let mut words = [0usize; 1024];
-    let checked = run_refusals::refusal_with(plan, schedule, pick, &mut words);
-    match checked {
-        Checked::Refused { number, place } => Previewed::Refused { number, place },
-        Checked::Passed => shown(plan, &words, schedule, pick),
-    }
+    run_refusals::refusal_with(plan, schedule, pick, &mut words)?;
+    Ok(shown(plan, &words, schedule, pick))
 }

@@ -4,10 +4,10 @@ use native.Mathlib.Decide.{dec_le}
 use native.Mathlib.Omega.{arith}
 use mathlib.Core.Path.{◌≡◌, refl, sym, ap, ap₂, subst, ◌∙◌}
 use mathlib.Core.Logic.{◌⊎◌, inl, inr}
-use mathlib.Core.Bool.{Bool, true, false, cond, true≢false}
-use mathlib.Core.List.{List, [], ◌∷◌, ◌++◌}
+use mathlib.Core.Bool.{Bool, true, false, cond}
+use mathlib.Core.List.{List, [], ◌∷◌}
 use lib.Dec.{ltb}
-use lib.ListN.{length, get_or, set, take, drop, replicate, length-replicate, length-append, length-drop, length-map, drop_of_length-le}
+use lib.ListN.{length, get_or, take, drop, replicate, length-replicate, length-append, length-drop, length-map}
 use lib.Seq.{take-append_seam}
 use borrow.Author.Tests.{lt-ltb, le-ltb, ne_eqb}
 use Rattle.format.specs.Area.{overwrite}
@@ -29,15 +29,17 @@ use Rattle.plan_lexer.specs.Place.{place_in, place_of}
 use Rattle.plan_parsing.specs.Plan.{Reading, plan, fault, Fault, read_plan}
 use Rattle.plan_parsing.proofs.PlanRight.{program_right}
 use Rattle.plan_writer.specs.Inner.Held.{held_from, held_program, Writable}
-use Rattle.plan_reader.specs.Inner.Reading.{fault_of, Faulty, PlanHeld, ReadBy, ReadAs}
+use Rattle.plan_reader.specs.Inner.Reading.{fault_of, ReadBy, ReadAs}
 use Rattle.plan_reader.specs.declared.Outcome.{Outcome}
 use Rattle.plan_reader.specs.declared.Outcome.TheVariants.{Plan, Refused, Full}
 use Rattle.read.specs.Read as texts
 use Rattle.read.specs.Read.{Failure, of_fault, too_many, short_for_plan, failed_at, answer_by, area_by, read_answer, read_area}
 use Rattle.read.specs.Answer.{failure_of, known_kind, answered}
 use Rattle.read.specs.Inner.Begun.{Held, told_answer, PlanTold, OfText, Lent, TokensPlan, TokensFault, TokensTold, Tried}
-use Rattle.read.specs.declared.ReadAnswer.{ReadAnswer}
-use Rattle.read.specs.declared.ReadAnswer.TheVariants.{Failed}
+use Rattle.std.specs.Prelude.{Option, Some, None, Result, Err}
+use Rattle.read.specs.declared.Stop.{Stop}
+use Rattle.read.specs.declared.Stop.TheVariants as stop
+use Rattle.read.specs.declared.ReadError.TheVariants.{Failed}
 
 -- ---- a plan in arrays
 
@@ -130,7 +132,7 @@ some_token text = omega (arith, codes_length text, from_some text nothing 0)
 -- ---- the place of a failure
 
 pub failed_is : (text : List ℕ) (i kind reason : ℕ) {l c : ℕ} → (l ≡ (place_of text i).line) × (c ≡ (place_of text i).column)
-    → answered (Failed l c kind reason) ≡ failed_at text i (failure_of kind reason)
+    → answered (Err (Failed l c kind reason)) ≡ failed_at text i (failure_of kind reason)
 unfolding failed_at
 failed_is text i kind reason e = ap₂ (λ (l c : ℕ). texts.Read.failed l c (failure_of kind reason)) e.0 e.1
 
@@ -181,9 +183,8 @@ by_fault : (text area : List ℕ) (f : Fault) (rest : List ℕ) → read_plan (c
 unfolding answer_by area_by
 by_fault text area f rest e = (sym (ap (answer_by text area) e), sym (ap (area_by area) e))
 
-pub fault_told : (text area area' told : List ℕ) {ts : List ℕ} → ts ≡ codes_of text → TokensFault ts area area' told
+pub fault_told : (text area area' : List ℕ) (told : Result ℕ Stop) {ts : List ℕ} → ts ≡ codes_of text → TokensFault ts area area' told
     → (told_answer text told ≡ answer_by text area (read_plan (codes_of text))) × (area' ≡ area_by area (read_plan (codes_of text)))
-unfolding told_answer
 fault_told text area area' told {ts} e x =
     let f = fault_of x.kind x.reason in
     let says : read_plan (codes_of text) ≡ fault f (drop x.at (codes_of text)) = subst (λ (us : List ℕ). read_plan us ≡ fault f (drop x.at us)) e x.says in
@@ -221,9 +222,9 @@ plan_in_arrays {ts} {words} {roots} {counts} {v} {m} {n} {left} o x f b =
 pub full_short : {ts words roots counts : List ℕ} {r : Outcome} → ReadAs ts words roots counts r → r ≡ Full → length words < 1024
 full_short {ts} {words} {roots} {counts} x f = subst (ReadBy ts words roots counts) f x.so
 
-by_plan : (text area : List ℕ) (g : Program) → read_plan (codes_of text) ≡ plan g → (area' told : List ℕ) → PlanTold g area area' told
+by_plan : (text area : List ℕ) (g : Program) → read_plan (codes_of text) ≡ plan g → (area' : List ℕ) (told : Result ℕ Stop) → PlanTold g area area' told
     → (told_answer text told ≡ answer_by text area (read_plan (codes_of text))) × (area' ≡ area_by area (read_plan (codes_of text)))
-unfolding answer_by area_by short_for_plan told_answer
+unfolding answer_by area_by short_for_plan
 by_plan text area g e area' told (inl w) =
     let s = lt-ltb (length area) (length (bytes.written g)) w.short in
     (ap (told_answer text) w.told_is ∙ sym (ap (answer_by text area) e ∙ rw s refl), w.kept ∙ sym (ap (area_by area) e ∙ rw s refl))
@@ -231,33 +232,33 @@ by_plan text area g e area' told (inr w) =
     let s = le-ltb (length area) (length (bytes.written g)) w.long in
     (ap (told_answer text) w.told_is ∙ sym (ap (answer_by text area) e ∙ rw s refl), w.bytes ∙ sym (ap (area_by area) e ∙ rw s refl))
 
-pub plan_told : (text area area' told : List ℕ) {ts : List ℕ} → ts ≡ codes_of text → TokensPlan ts area area' told
+pub plan_told : (text area area' : List ℕ) (told : Result ℕ Stop) {ts : List ℕ} → ts ≡ codes_of text → TokensPlan ts area area' told
     → (told_answer text told ≡ answer_by text area (read_plan (codes_of text))) × (area' ≡ area_by area (read_plan (codes_of text)))
 plan_told text area area' told e x =
     by_plan text area x.program (subst (λ (us : List ℕ). read_plan us ≡ plan x.program) e x.says) area' told x.plan_told
 
 -- what the reader says of tokens
-pub plan_tokens : {ts words roots counts area area' told : List ℕ} {v m n left : ℕ} {r : Outcome} → ReadAs ts words roots counts r → r ≡ Plan v m n left
+pub plan_tokens : {ts words roots counts area area' : List ℕ} {told : Result ℕ Stop} {v m n left : ℕ} {r : Outcome} → ReadAs ts words roots counts r → r ≡ Plan v m n left
     → PlanTold (held_program v m n words roots counts) area area' told → TokensPlan ts area area' told
 plan_tokens {ts} {words} {roots} {counts} {v = v} {m} {n} x f w =
     let h = subst (ReadBy ts words roots counts) f x.so in
     record { program = held_program v m n words roots counts; says = h.0.says; plan_told = w }
 
-pub fault_tokens : {ts words roots counts area told : List ℕ} {kind reason at k : ℕ} {r : Outcome} → ReadAs ts words roots counts r → r ≡ Refused kind reason at
-    → k ≡ known_kind kind → told ≡ 2 ∷ at ∷ k ∷ reason ∷ [] → TokensFault ts area area told
-fault_tokens {ts} {words} {roots} {counts} {kind = kind} {reason} {at} x f q z =
+pub fault_tokens : {ts words roots counts area : List ℕ} {kind reason at k : ℕ} {r : Outcome} → ReadAs ts words roots counts r → r ≡ Refused kind reason at
+    → k ≡ known_kind kind → TokensFault ts area area (Err (stop.Token at k reason))
+fault_tokens {ts} {words} {roots} {counts} {kind = kind} {reason} {at} x f q =
     record {
       kind = kind;
       reason = reason;
       at = at;
       says = subst (ReadBy ts words roots counts) f x.so;
-      told_is = z ∙ ap (λ (j : ℕ). 2 ∷ at ∷ j ∷ reason ∷ []) q;
+      told_is = ap (λ (j : ℕ). Err (stop.Token at j reason)) q;
       kept = refl;
     }
 
 -- ---- lengths
 
-pub written_length : {g : Program} {area area' told : List ℕ} → PlanTold g area area' told → length area' ≡ length area
+pub written_length : {g : Program} {area area' : List ℕ} {told : Result ℕ Stop} → PlanTold g area area' told → length area' ≡ length area
 written_length (inl w) = ap length w.kept
 written_length {g} {area} (inr w) = ap length w.bytes ∙ overwrite_length (bytes.written g) area w.long
 
@@ -289,11 +290,10 @@ module _ (text area : List ℕ) {tokens after : List ℕ} {r : ℕ} (k : Kept to
       go (yes l) = absurd (omega (arith, h, l, (k.fits l).0))
       go (no l) = omega (arith, l)
 
-  pub many_told : (told : List ℕ) → length tokens ≡ 16384 → length tokens < r → told ≡ 2 ∷ 16384 ∷ 4 ∷ 0 ∷ []
-      → (told_answer text told ≡ read_answer text area) × (area ≡ read_area text area)
-  unfolding read_answer read_area too_many failure_of told_answer
-  many_told told w h e =
-      let s = lt-ltb 16384 (length (codes_of text)) (omega (arith, many h, w)) in (ap (told_answer text) e ∙ sym (rw s refl), sym (rw s refl))
+  pub many_told : length tokens ≡ 16384 → length tokens < r
+      → (told_answer text (Err (stop.Token 16384 4 0)) ≡ read_answer text area) × (area ≡ read_area text area)
+  unfolding read_answer read_area too_many failure_of
+  many_told w h = let s = lt-ltb 16384 (length (codes_of text)) (omega (arith, many h, w)) in (sym (rw s refl), sym (rw s refl))
 
   few : r ≤ length tokens → length (codes_of text) ≤ length tokens
   few h = go (dec_le (length (codes_of text)) (length tokens))
@@ -313,46 +313,20 @@ module _ (text area : List ℕ) {tokens after : List ℕ} {r : ℕ} (k : Kept to
       whole : (n : ℕ) → n - 0 ≡ n
       whole n = omega arith
 
-  whole_answer : (told area' : List ℕ) → r ≤ length tokens
+  whole_answer : (told : Result ℕ Stop) (area' : List ℕ) → r ≤ length tokens
       → (told_answer text told ≡ answer_by text area (read_plan (codes_of text))) × (area' ≡ area_by area (read_plan (codes_of text)))
       → (told_answer text told ≡ read_answer text area) × (area' ≡ read_area text area)
   unfolding read_answer read_area too_many
   whole_answer told area' h e = let s = le-ltb 16384 (length (codes_of text)) (omega (arith, few h)) in (e.0 ∙ sym (rw s refl), e.1 ∙ sym (rw s refl))
 
-  pub few_tried : (w : ℕ) (x : Bool) (area' told ts : List ℕ) → r ≤ length tokens → ts ≡ codes_of text → TokensTold ts w area area' told x
-      → Tried text w area area' told x
-  few_tried w true area' told ts h e (inl t) = whole_answer told area' h (plan_told text area area' told e t)
-  few_tried w true area' told ts h e (inr t) = whole_answer told area' h (fault_told text area area' told e t)
-  few_tried w false area' told ts h e t = t
+  pub few_tried : (w : ℕ) (x : Option (Result ℕ Stop)) (area' ts : List ℕ) → r ≤ length tokens → ts ≡ codes_of text → TokensTold ts w area area' x
+      → Tried text w area area' x
+  few_tried w (Some told) area' ts h e (inl t) = whole_answer told area' h (plan_told text area area' told e t)
+  few_tried w (Some told) area' ts h e (inr t) = whole_answer told area' h (fault_told text area area' told e t)
+  few_tried w None area' ts h e t = t
 
--- ---- an attempt with an answer, or without one
+-- ---- the area's length
 
-pub tried_answer : (text area area' told : List ℕ) (w : ℕ) (x : Bool) → Tried text w area area' told x → x ≡ true ⊎ (1024 ≤ w)
-    → (told_answer text told ≡ read_answer text area) × (area' ≡ read_area text area)
-tried_answer text area area' told w true t c = t
-tried_answer text area area' told w false t (inl c) = absurd (true≢false (sym c))
-tried_answer text area area' told w false t (inr c) = absurd (omega (arith, t.0))
-
--- one without leaves the area as it was
-pub crowded_area : (text area area' told : List ℕ) (w : ℕ) (x : Bool) → Tried text w area area' told x → x ≡ false → area' ≡ area
-crowded_area text area area' told w true t c = absurd (true≢false c)
-crowded_area text area area' told w false t c = t.1
-
--- and still lends four numbers
-pub crowded_told : (text area area' told : List ℕ) (w : ℕ) (x : Bool) → Tried text w area area' told x → x ≡ false → length told ≡ 4
-crowded_told text area area' told w true t c = absurd (true≢false c)
-crowded_told text area area' told w false t c = t.2
-
-pub tried_length : (text area area' told : List ℕ) (w : ℕ) (x : Bool) → Tried text w area area' told x → length area' ≡ length area
-tried_length text area area' told w true t = ap length t.1 ∙ read_length text area
-tried_length text area area' told w false t = ap length t.1
-
--- ---- four numbers
-
-pub four_set : (l : List ℕ) (a b c d : ℕ) → length l ≡ 4 → set (set (set (set l 0 a) 1 b) 2 c) 3 d ≡ a ∷ b ∷ c ∷ d ∷ []
-four_set [] a b c d h = absurd (omega arith)
-four_set (x ∷ []) a b c d h = absurd (omega arith)
-four_set (x ∷ y ∷ []) a b c d h = absurd (omega arith)
-four_set (x ∷ y ∷ z ∷ []) a b c d h = absurd (omega arith)
-four_set (x ∷ y ∷ z ∷ w ∷ []) a b c d h = refl
-four_set (x ∷ y ∷ z ∷ w ∷ v ∷ l) a b c d h = absurd (omega arith)
+pub tried_length : (text area area' : List ℕ) (w : ℕ) (x : Option (Result ℕ Stop)) → Tried text w area area' x → length area' ≡ length area
+tried_length text area area' w (Some told) t = ap length t.1 ∙ read_length text area
+tried_length text area area' w None t = ap length t.1

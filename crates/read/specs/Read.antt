@@ -3,7 +3,7 @@ use Rattle.std.specs.Prelude.{ℕ, ◌-◌, Bool, cond, List, ltb, length}
 use Rattle.format.specs.Area.{overwrite}
 use Rattle.plan_packed.specs.Syntax.{Program}
 use Rattle.plan_written.specs.Written as bytes
-use Rattle.plan_notation.specs.Lexing.{Place, codes_of}
+use Rattle.plan_notation.specs.Lexing.{codes_of}
 use Rattle.plan_lexer.specs.Place.{place_of}
 use Rattle.plan_parsing.specs.Plan.{Reading, plan, fault, Fault, read_plan}
 

@@ -14,10 +14,7 @@ use run_state::{Cell, Counts, Head, Object, Setting, acted};
 pub fn goes_on(redex: usize) -> bool
     ensures { result ≡ goes_on_by redex }
 {
-    if redex < redex::RUN {
-        return false;
-    }
-    redex <= redex::AGAIN
+    redex::RUN <= redex && redex <= redex::AGAIN
 }
 
 // Where a move that leaves no record goes on.
@@ -54,10 +51,7 @@ pub fn act_pure(head: Head) -> Refocusing
 pub fn changes(redex: usize) -> bool
     ensures { result ≡ changes_by redex }
 {
-    if redex == redex::WRITE {
-        return true;
-    }
-    redex::SYNCH <= redex
+    redex == redex::WRITE || redex::SYNCH <= redex
 }
 
 // What the move of a thread that can move does.

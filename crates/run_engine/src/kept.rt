@@ -42,7 +42,7 @@ pub fn keep(cell: Cell) -> Kept
 {
     let keys = turned(cell.keys);
     Kept {
-        keys: keys,
+        keys,
         value: cell.value,
         key: cell.key,
     }
@@ -53,7 +53,7 @@ pub fn restore(kept: Kept) -> Cell
 {
     let keys = turned(kept.keys);
     Cell {
-        keys: keys,
+        keys,
         value: kept.value,
         key: kept.key,
     }

@@ -71,10 +71,7 @@ pub fn thread_of(setting: Setting, met: Met) -> Thread
     let joined = other.ready;
     let state = run_look::status(setting, head, cell, object, joined.redex, met.place);
     let learnt = (head.learnt % 256) as u8;
-    Thread {
-        state: state,
-        learnt: learnt,
-    }
+    Thread { state, learnt }
 }
 
 // What a run comes to that may go on behind the given picks, and how many picks it made, one that stopped it among them.
@@ -160,12 +157,12 @@ pub fn explore(
                 let object = objects[number / 32];
                 let other = heads[object.thread % 16];
                 let met = Met {
-                    counts: counts,
-                    head: head,
-                    cell: cell,
-                    object: object,
-                    other: other,
-                    thread: thread,
+                    counts,
+                    head,
+                    cell,
+                    object,
+                    other,
+                    thread,
                     place: places[thread],
                 };
                 begun = run_pick::begin(setting, met);
@@ -241,12 +238,12 @@ pub fn explore(
             let object = objects[number / 32];
             let other = heads[object.thread % 16];
             let met = Met {
-                counts: counts,
-                head: head,
-                cell: cell,
-                object: object,
-                other: other,
-                thread: thread,
+                counts,
+                head,
+                cell,
+                object,
+                other,
+                thread,
                 place: places[thread],
             };
             threads[thread] = thread_of(setting, met);
@@ -261,5 +258,5 @@ pub fn explore(
         to += 1;
     }
     let ran = run_tally::result(stop, dealt, tally, moves_before, records_before, threads);
-    Explored { ran: ran, made: to }
+    Explored { ran, made: to }
 }

@@ -125,13 +125,13 @@ pub fn unpack(top: usize, environment: usize, arguments: usize) -> Frame
 {
     let kind = kind_of(top % 16);
     Frame {
-        kind: kind,
+        kind,
         first: top / 16 % 1024,
         second: top / 16384 % 1024,
         member: top / 16777216 % 32,
         count: top / 536870912 % 16,
-        environment: environment,
-        arguments: arguments,
+        environment,
+        arguments,
     }
 }
 
@@ -139,12 +139,12 @@ pub fn frame_of(kind: Kind, first: usize, second: usize, member: usize, environm
     ensures { result ≡ framed kind first second member environment }
 {
     Frame {
-        kind: kind,
-        first: first,
-        second: second,
-        member: member,
+        kind,
+        first,
+        second,
+        member,
         count: 0,
-        environment: environment,
+        environment,
         arguments: 0,
     }
 }
@@ -159,7 +159,7 @@ pub fn let_frame(slot: usize, term: usize, environment: usize) -> Frame
         second: 0,
         member: 0,
         count: slot,
-        environment: environment,
+        environment,
         arguments: 0,
     }
 }
@@ -169,7 +169,7 @@ pub fn second_frame(kind: Kind, frame: Frame, value: usize) -> Frame
     ensures { result ≡ second_frame kind frame value }
 {
     Frame {
-        kind: kind,
+        kind,
         first: 0,
         second: 0,
         member: frame.member,

@@ -61,11 +61,11 @@ pub fn ready_of(
     ensures { result ≡ ready_at redex first second third environment }
 {
     Ready {
-        redex: redex,
-        first: first,
-        second: second,
-        third: third,
-        environment: environment,
+        redex,
+        first,
+        second,
+        third,
+        environment,
     }
 }
 
@@ -73,9 +73,9 @@ fn go_of(stage: Stage, frame: Frame, operand: usize) -> Refocusing
     ensures { result ≡ go_of stage frame operand }
 {
     Refocusing {
-        operand: operand,
-        frame: frame,
-        stage: stage,
+        operand,
+        frame,
+        stage,
     }
 }
 

@@ -8,7 +8,7 @@ use Rattle.run_outcome.specs.declared.NoRoom.{NoRoom}
 use Rattle.run_outcome.specs.declared.Stop.TheVariants as stop
 use Rattle.run_open_threads.specs.Inner.Open.{absent}
 use Rattle.run_outcome.specs.declared.Outcome.{Outcome}
-use Rattle.run_last_pick.specs.declared.Previewed.TheVariants as previewed
+use Rattle.run_last_pick.specs.declared.Preview.TheVariants as previewed
 use Rattle.run_last_pick.specs.Inner.LastPick.{last_record, last_ended, last_met, last_pick}
 
 module _ (o : Outcome) (moves records before pick : ℕ) (log : List ℕ) where

@@ -14,11 +14,9 @@ pub struct RecordBytes {
     pub low: u8,
 }
 
-// What a preview answers.
+// What a pick would do.
 #[derive(Clone, Copy)]
-pub enum Previewed {
-    // It is refused: document 01's number and place, where the pick counts as the schedule's last.
-    Refused { number: usize, place: usize },
+pub enum Preview {
     // The schedule itself has stopped.
     Stopped(Stop),
     // The pick would be passed over, for the state of its thread.
@@ -55,28 +53,28 @@ pub fn last_pick(
     before: usize,
     pick: usize,
     log: &[u8],
-) -> Previewed
+) -> Preview
     requires { LastGiven outcome records before pick log.now }
     ensures { result ≡ last_pick outcome moves records before pick log.now }
 {
     let stop = outcome.stop;
     if outcome.picks < before {
-        return Previewed::Stopped(stop);
+        return Preview::Stopped(stop);
     }
     match stop {
-        Stop::NoRoom(room) => Previewed::NoRoom(room),
-        Stop::Race => Previewed::Race(last_record(log, outcome.records)),
+        Stop::NoRoom(room) => Preview::NoRoom(room),
+        Stop::Race => Preview::Race(last_record(log, outcome.records)),
         Stop::End => {
             if outcome.moves == moves {
                 let threads = outcome.threads;
                 let thread = threads[pick];
                 let state = thread.state;
-                return Previewed::Passed(state);
+                return Preview::Passed(state);
             }
             if outcome.records == records {
-                return Previewed::Moved;
+                return Preview::Moved;
             }
-            Previewed::Recorded(last_record(log, outcome.records))
+            Preview::Recorded(last_record(log, outcome.records))
         }
     }
 }

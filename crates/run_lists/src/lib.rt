@@ -39,11 +39,8 @@ fn valued(words: &[usize; 1024], list: usize) -> bool
     ensures { result ≡ valued_at words.now list }
 {
     let word = words::word(words, list);
-    if plan_operands::tag(word) == tags::LIST {
-        let operand = words::word(words, plan_operands::first(word));
-        return plan_operands::tag(operand) < 2;
-    }
-    false
+    plan_operands::tag(word) == tags::LIST
+        && plan_operands::tag(words::word(words, plan_operands::first(word))) < 2
 }
 
 // The value that comes next in a list: its code, the list behind it, and one for it; where none comes, 40, the list itself, and none.
@@ -84,13 +81,11 @@ fn read(words: &[usize; 1024], list: usize) -> usize
     let mut at = list;
     let mut codes: usize = 0;
     let mut count: usize = 0;
-    let mut place: usize = 0;
-    while place < 8 {
+    for place in 0..8usize {
         let next = next(words, at);
-        codes = codes + (next.code << (place * 6));
-        count = count + next.one;
+        codes += next.code << (place * 6);
+        count += next.one;
         at = next.rest;
-        place += 1;
     }
     codes + head(words, list, at, count) * COUNT
 }
@@ -123,11 +118,9 @@ pub fn values(environment: usize, told: usize) -> usize
     let slots = environment % 1099511627776;
     let mut codes = told;
     let mut values: usize = 0;
-    let mut place: usize = 0;
-    while place < 8 {
-        values = values + (((slots >> (codes % 64)) % 32) << (place * 5));
-        codes = codes / 64;
-        place += 1;
+    for place in 0..8usize {
+        values += ((slots >> (codes % 64)) % 32) << (place * 5);
+        codes /= 64;
     }
     values
 }

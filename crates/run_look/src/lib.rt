@@ -104,10 +104,8 @@ fn look_synch(head: Head, cell: Cell) -> Sight
     ensures { result ≡ look_synch head cell }
 {
     let keys = cell.keys;
-    if keys.is_empty() {
-        if cell.value as usize != head.object {
-            return Sight::Blocked(Block::Monitor);
-        }
+    if keys.is_empty() && cell.value as usize != head.object {
+        return Sight::Blocked(Block::Monitor);
     }
     Sight::Ready
 }
@@ -117,10 +115,8 @@ fn look_signal(head: Head, cell: Cell) -> Sight
     ensures { result ≡ look_signal head cell }
 {
     let keys = cell.keys;
-    if keys.is_empty() {
-        if cell.value as usize == head.object {
-            return Sight::Ready;
-        }
+    if keys.is_empty() && cell.value as usize == head.object {
+        return Sight::Ready;
     }
     Sight::Blocked(Block::NotHeld)
 }
@@ -144,10 +140,7 @@ fn look_waiting(cell: Cell, place: u16) -> Sight
 fn about_field(redex: usize) -> bool
     ensures { result ≡ about_field redex }
 {
-    if redex == redex::READ {
-        return true;
-    }
-    redex == redex::WRITE
+    redex == redex::READ || redex == redex::WRITE
 }
 
 // What a present thread's next pick meets, by its head, the cell and the object that its redex is about, the redex of the thread that the object
@@ -185,15 +178,12 @@ fn blocked(block: Block, ready: Ready) -> ThreadState
     let field = field_of(ready);
     match block {
         Block::Finished => ThreadState::Finished { value: ready.first },
-        Block::Monitor => ThreadState::Waiting(Wait::Monitor { object: object }),
-        Block::Join => ThreadState::Waiting(Wait::Join { object: object }),
-        Block::Notify => ThreadState::Waiting(Wait::Notify { object: object }),
-        Block::Field => ThreadState::Stuck(Stuck::Field {
-            object: object,
-            field: field,
-        }),
-        Block::Thread => ThreadState::Stuck(Stuck::Thread { object: object }),
-        Block::NotHeld => ThreadState::Stuck(Stuck::Monitor { object: object }),
+        Block::Monitor => ThreadState::Waiting(Wait::Monitor { object }),
+        Block::Join => ThreadState::Waiting(Wait::Join { object }),
+        Block::Notify => ThreadState::Waiting(Wait::Notify { object }),
+        Block::Field => ThreadState::Stuck(Stuck::Field { object, field }),
+        Block::Thread => ThreadState::Stuck(Stuck::Thread { object }),
+        Block::NotHeld => ThreadState::Stuck(Stuck::Monitor { object }),
         Block::NoRule => ThreadState::Stuck(Stuck::NoRule),
     }
 }

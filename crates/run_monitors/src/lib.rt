@@ -35,7 +35,7 @@ pub fn act_synch(
         second: 0,
         member: 0,
         count: 0,
-        environment: environment,
+        environment,
         arguments: object,
     };
     let go = refocusing::want(frame, term);

@@ -22,7 +22,7 @@ pub fn act_new(counts: Counts, head: Head, cell: Cell, mask: usize) -> Act
     let objects = object + 1;
     let counted = Counts {
         threads: counts.threads,
-        objects: objects,
+        objects,
         keys: counts.keys,
     };
     let go = refocusing::value(object);
@@ -45,8 +45,8 @@ pub fn act_fork(counts: Counts, head: Head, cell: Cell) -> Act
     let threads = thread + 1;
     let objects = object + 1;
     let counted = Counts {
-        threads: threads,
-        objects: objects,
+        threads,
+        objects,
         keys: counts.keys,
     };
     let go = refocusing::value(object);

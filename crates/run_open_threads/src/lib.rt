@@ -20,17 +20,7 @@ pub fn no_thread() -> Thread
 fn is_open(state: ThreadState) -> bool
     ensures { result ≡ is_open state }
 {
-    match state {
-        ThreadState::Absent => false,
-        ThreadState::Finished { value: _ } => false,
-        ThreadState::Ready => true,
-        ThreadState::Waiting(_) => false,
-        ThreadState::Stuck(_) => false,
-        ThreadState::Lacking {
-            object: _,
-            field: _,
-        } => true,
-    }
+    matches!(state, ThreadState::Ready | ThreadState::Lacking { .. })
 }
 
 // The lowest of the threads from `from` on that can be picked, or 8.
@@ -38,26 +28,19 @@ pub fn open_from(threads: [Thread; 8], from: usize) -> usize
     requires { from ≤ 8 }
     ensures { LowestFrom (open_at threads) from result }
 {
-    let mut thread = from;
-    while thread < 8 {
-        let next = threads[thread];
-        let state = next.state;
-        if is_open(state) {
+    for thread in from..8 {
+        if is_open(threads[thread].state) {
             return thread;
         }
-        thread += 1;
     }
-    thread
+    8
 }
 
 // The lowest thread by which a run goes on; 8 where it has stopped, where no place is left, or where no thread can be picked.
 pub fn goes_on_by(threads: [Thread; 8], stopped: bool, places: usize, made: usize) -> usize
     ensures { GoesOnBy threads stopped places made result }
 {
-    if stopped {
-        return 8;
-    }
-    if places <= made {
+    if stopped || places <= made {
         return 8;
     }
     open_from(threads, 0)

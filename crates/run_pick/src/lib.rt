@@ -87,11 +87,11 @@ fn head_at(refocused: Refocused, object: usize, keys: KeySet, learnt: usize) -> 
 {
     let ready = refocused.ready;
     Head {
-        ready: ready,
+        ready,
         depth: refocused.depth,
-        object: object,
-        keys: keys,
-        learnt: learnt,
+        object,
+        keys,
+        learnt,
     }
 }
 
@@ -105,7 +105,7 @@ pub fn no_head() -> Head
         ready: none,
         depth: 0,
         object: 0,
-        keys: keys,
+        keys,
         learnt: 0,
     }
 }

@@ -8,9 +8,9 @@ use run_outcome::Thread;
 
 // Where the following schedule leaves a given one, and its pick there.
 #[derive(Clone, Copy)]
-pub enum Departure {
-    At { place: usize, pick: usize },
-    Over,
+pub struct Departure {
+    pub place: usize,
+    pub pick: usize,
 }
 
 // The note of a place, by its threads: the lowest that can be picked there is known.
@@ -22,20 +22,18 @@ pub fn note(threads: [Thread; 8], lowest: usize, pick: usize) -> u8
     (lowest * 16 + run_open_threads::open_from(threads, thread + 1)) as u8
 }
 
-// The last of the first notes that has a higher thread, and that thread.
-pub fn last_departure(notes: &[u8], count: usize) -> Departure
+// The last of the first notes that has a higher thread, and that thread; none where the list is over.
+pub fn last_departure(notes: &[u8], count: usize) -> Option<Departure>
     requires { count ≤ length notes.now }
     ensures { LastDeparture notes.now count result }
 {
-    let mut place = count;
-    while place > 0 {
-        place -= 1;
+    for place in (0..count).rev() {
         let pick = byte_numbers::wide(notes[place]) % 16;
         if pick < 8 {
-            return Departure::At { place, pick };
+            return Some(Departure { place, pick });
         }
     }
-    Departure::Over
+    None
 }
 
 // The picks that are noted from `from` on, up to `made`, into the area.
@@ -43,9 +41,7 @@ pub fn put_noted(notes: &[u8], made: usize, area: &mut [u8], from: usize)
     requires { Puts notes.now made area.old from }
     ensures { PutNoted notes.now made from area.old area.new }
 {
-    let mut place = from;
-    while place < made {
+    for place in from..made {
         area[place] = notes[place] / 16;
-        place += 1;
     }
 }

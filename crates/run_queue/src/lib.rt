@@ -12,10 +12,7 @@ use run_frames::refocusing::Ready;
 fn queued(object: u16, place: u16) -> bool
     ensures { result ≡ queued_on object place }
 {
-    if object == place % 32 {
-        return 0 < place / 32;
-    }
-    false
+    object == place % 32 && 0 < place / 32
 }
 
 // How many are queued on the object.
@@ -24,8 +21,8 @@ fn count(places: &[u16], object: u16) -> u16
     ensures { (result ≡ count_of object places.now) × (result ≤ length places.now) }
 {
     let mut count: u16 = 0;
-    for i in 0..places.len() {
-        if queued(object, places[i]) {
+    for place in places {
+        if queued(object, *place) {
             count += 1;
         }
     }
@@ -55,8 +52,8 @@ fn nearer(object: u16, place: u16) -> u16
 fn notify(places: &mut [u16], object: u16)
     ensures { places.new ≡ notified_of object places.old }
 {
-    for i in 0..places.len() {
-        places[i] = nearer(object, places[i]);
+    for place in places.iter_mut() {
+        *place = nearer(object, *place);
     }
 }
 
@@ -71,8 +68,8 @@ fn freed(object: u16, place: u16) -> u16
 fn notify_all(places: &mut [u16], object: u16)
     ensures { places.new ≡ all_notified_of object places.old }
 {
-    for i in 0..places.len() {
-        places[i] = freed(object, places[i]);
+    for place in places.iter_mut() {
+        *place = freed(object, *place);
     }
 }
 

@@ -1,4 +1,3 @@
 pub mod Turns
-pub mod Others
 pub mod Along
 pub mod After

@@ -36,21 +36,16 @@ pub struct Refocusings {
 fn ends(before: Refocused, last: Refocused) -> Refocusings
     ensures { result ≡ refocusings_of before last }
 {
-    Refocusings {
-        before: before,
-        last: last,
-    }
+    Refocusings { before, last }
 }
 
 pub fn end_at(go: Refocusing, depth: usize) -> Refocused
     ensures { result ≡ refocused_of go depth }
 {
-    let stage = go.stage;
-    let ready = refocusing::ready_in(go);
     Refocused {
-        ready: ready,
-        depth: depth,
-        stage: stage,
+        ready: refocusing::ready_in(go),
+        depth,
+        stage: go.stage,
     }
 }
 
@@ -65,29 +60,14 @@ fn no_refocusing() -> Refocused
 fn live(go: Refocusing) -> bool
     ensures { result ≡ live_of go }
 {
-    let stage = go.stage;
-    match stage {
-        Stage::At => false,
-        Stage::Full => false,
-        Stage::Run => true,
-        Stage::RunCondition => true,
-        Stage::Want => true,
-        Stage::WantCondition => true,
-        Stage::List => true,
-        Stage::Value => true,
-        Stage::Truth => true,
-    }
+    !matches!(go.stage, Stage::At | Stage::Full)
 }
 
 // Whether there was no room.
 pub fn full(refocused: Refocused) -> bool
     ensures { result ≡ full_of refocused }
 {
-    let stage = refocused.stage;
-    match stage {
-        Stage::Full => true,
-        _ => false,
-    }
+    matches!(refocused.stage, Stage::Full)
 }
 
 // The store of a frame.

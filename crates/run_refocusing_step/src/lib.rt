@@ -49,10 +49,10 @@ fn stay(go: Refocusing, depth: usize) -> Turn
 {
     let frame = frame::frame_of(Kind::Read, 0, 0, 0, 0);
     Turn {
-        go: go,
-        depth: depth,
+        go,
+        depth,
         at: depth,
-        frame: frame,
+        frame,
     }
 }
 
@@ -62,10 +62,10 @@ fn push(go: Refocusing, depth: usize, frame: Frame) -> Turn
 {
     if depth < 32 {
         return Turn {
-            go: go,
+            go,
             depth: depth + 1,
             at: depth,
-            frame: frame,
+            frame,
         };
     }
     stay(refocusing::full(), depth)
@@ -142,23 +142,18 @@ fn gather(words: &[usize; 1024], frame: Frame, left: usize) -> Gathered
     ensures { result ≡ gathered_of (left - 1) words.now frame }
 {
     let mut frame = frame;
-    let mut left = left;
-    while 1 < left {
+    for more in (1..left).rev() {
         let word = words::word(words, frame.first);
         let value = next(words, frame.environment, word);
         if 32 <= value {
             return Gathered {
-                frame: frame,
-                left: left,
+                left: more + 1,
+                frame,
             };
         }
         frame = frame::collect(frame::rest(frame, plan_operands::second(word)), value);
-        left -= 1;
     }
-    Gathered {
-        frame: frame,
-        left: left,
-    }
+    Gathered { left: 1, frame }
 }
 
 // The same, and then a step.
@@ -178,14 +173,10 @@ fn one_by_one(words: &[usize; 1024], roots: &[usize; 32], frame: Frame, left: us
 fn fits(frame: Frame, count: usize, left: usize) -> bool
     ensures { Fits frame count left result }
 {
-    if count < left {
-        if count <= 8 {
-            if frame.count <= 8 - count {
-                return frame.arguments >> (frame.count * 5) == 0;
-            }
-        }
-    }
-    false
+    count < left
+        && count <= 8
+        && frame.count <= 8 - count
+        && frame.arguments >> (frame.count * 5) == 0
 }
 
 // Through the rest of a call's list: all of it at once where it is values alone, which its number tells; else to an operand that needs a move.
@@ -212,7 +203,7 @@ fn called(
         return one_by_one(words, roots, frame, left);
     }
     Through {
-        left: left,
+        left,
         go: call(roots, frame, frame.arguments),
     }
 }
@@ -369,7 +360,7 @@ fn listed(
     let stage = go.stage;
     match stage {
         Stage::List => called(words, roots, lists, frame, left),
-        _ => Through { left: left, go: go },
+        _ => Through { left, go },
     }
 }
 
@@ -452,17 +443,11 @@ pub fn step(
     match stage {
         Stage::Value => {
             let turn = back(frame_at(stack, top(base, depth)), go.operand, depth);
-            Stepped {
-                left: left,
-                turn: turn,
-            }
+            Stepped { left, turn }
         }
         Stage::Truth => {
             let turn = back_condition(frame_at(stack, top(base, depth)), go.operand, depth);
-            Stepped {
-                left: left,
-                turn: turn,
-            }
+            Stepped { left, turn }
         }
         _ => {
             let opened = opened(words, go);
@@ -470,7 +455,7 @@ pub fn step(
             let turn = wanted(words, listed.go, depth);
             Stepped {
                 left: listed.left,
-                turn: turn,
+                turn,
             }
         }
     }

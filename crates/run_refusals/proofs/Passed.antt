@@ -11,9 +11,8 @@ use Rattle.format.proofs.RefusalLaws.{both_none, head_pass, tail_pass, none_is_p
 use Rattle.plan_packed.specs.Format.{procedures, terms, plan_length}
 use Rattle.plan_packed.specs.Check.{refusal}
 use Rattle.plan_refusals.specs.Answer.{answered}
-use Rattle.plan_refusals.specs.declared.Checked.{Checked}
-use Rattle.plan_refusals.specs.declared.Checked.TheVariants as checked
-use Rattle.plan_refusals.proofs.Stages.{passed_none}
+use Rattle.std.specs.Prelude.{Ok}
+use Rattle.plan_refusals.proofs.Stages.{Checked, passed_none}
 use Rattle.plan_packed.proofs.Accepted.{accepted}
 use Rattle.rules.specs.Play.{too_many_picks, wrong_pick, short_area, schedule_refusal, play_refusal}
 use Rattle.run_schedule_refusals.specs.Inner.Checks.{pick_checks, area_checks}
@@ -39,7 +38,7 @@ scheduled plan schedule e =
     }
 
 -- what the code's refusal says, where it is none
-pub scheduled_by_code : (plan schedule : List ℕ) (r : Checked) → answered r ≡ schedule_refusal plan schedule → r ≡ checked.Passed → Scheduled plan schedule
+pub scheduled_by_code : (plan schedule : List ℕ) (r : Checked) {u : Unit {0}} → answered r ≡ schedule_refusal plan schedule → r ≡ Ok u → Scheduled plan schedule
 scheduled_by_code plan schedule r h e = scheduled plan schedule (passed_none _ r h e)
 
 -- ---- a play
@@ -74,5 +73,5 @@ unfolding plan_length
 inside plan e = let a = accepted plan e in record { few_procedures = a.few_procedures; few_terms = a.few_terms; long = a.length_right }
 
 -- what the code's refusal says, where it is none
-pub by_code : (plan schedule area : List ℕ) (r : Checked) → RefusedAs plan schedule (length area) (answered r) → r ≡ checked.Passed → Passed plan schedule area
+pub by_code : (plan schedule area : List ℕ) (r : Checked) {u : Unit {0}} → RefusedAs plan schedule (length area) (answered r) → r ≡ Ok u → Passed plan schedule area
 by_code plan schedule area r h e = passed plan schedule area (passed_none _ r (h area refl) e)

@@ -8,20 +8,18 @@ ghost use Rattle.plan_refusals.specs.Answer.{answered};
 ghost use Rattle.rules.specs.Play.{wrong_pick};
 ghost use Rattle.run_schedule_refusals.specs.Inner.Checks.{pick_checks, ShortBy};
 
-use plan_refusals::{Checked, refused};
+use refusals::{Reason, Refusal};
 
 // The lowest pick over 7, or the length.
 fn lowest_wrong_pick(schedule: &[u8]) -> usize
     ensures { Lowest (wrong_pick schedule.now) (length schedule.now) result }
 {
-    let mut i = 0;
-    while i < schedule.len() {
-        if schedule[i] > 7 {
+    for (i, pick) in schedule.iter().enumerate() {
+        if *pick > 7 {
             return i;
         }
-        i += 1;
     }
-    i
+    schedule.len()
 }
 
 // The lowest pick over 7 of a schedule with this pick added as its last, or the length.
@@ -39,40 +37,40 @@ fn lowest_wrong_with(schedule: &[u8], pick: usize) -> usize
 }
 
 // What refuses a schedule, refusals 8 and 9, if anything does.
-pub fn picks_refusal(schedule: &[u8]) -> Checked
+pub fn picks_refusal(schedule: &[u8]) -> Result<(), Refusal>
     ensures { answered result ≡ first_refusal (pick_checks schedule.now) }
 {
     if schedule.len() > 4096 {
-        return refused(8, 0);
+        return Err(Reason::ScheduleLength.at(0));
     }
     let pick = lowest_wrong_pick(schedule);
     if pick < schedule.len() {
-        return refused(9, pick);
+        return Err(Reason::Pick.at(pick));
     }
-    Checked::Passed
+    Ok(())
 }
 
 // What refuses a schedule with this pick added as its last, if anything does.
-pub fn picks_refusal_with(schedule: &[u8], pick: usize) -> Checked
+pub fn picks_refusal_with(schedule: &[u8], pick: usize) -> Result<(), Refusal>
     ensures { answered result ≡ first_refusal (pick_checks (schedule.now ++ (pick ∷ []))) }
 {
     if schedule.len() > 4095 {
-        return refused(8, 0);
+        return Err(Reason::ScheduleLength.at(0));
     }
     let wrong = lowest_wrong_with(schedule, pick);
     if wrong <= schedule.len() {
-        return refused(9, wrong);
+        return Err(Reason::Pick.at(wrong));
     }
-    Checked::Passed
+    Ok(())
 }
 
 // What refuses a log area of this length for so many picks, refusal 10, if anything does.
-pub fn area_refusal(picks: usize, area: usize) -> Checked
+pub fn area_refusal(picks: usize, area: usize) -> Result<(), Refusal>
     requires { picks ≤ 4096 }
     ensures { ShortBy picks area (answered result) }
 {
     if area < 3 * picks {
-        return refused(10, 0);
+        return Err(Reason::LogArea.at(0));
     }
-    Checked::Passed
+    Ok(())
 }

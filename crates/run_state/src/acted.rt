@@ -32,10 +32,10 @@ pub fn entry(kind: usize, object: usize, field: usize, value: usize) -> Entry
     ensures { result ≡ entry_of kind object field value }
 {
     Entry {
-        kind: kind,
-        object: object,
-        field: field,
-        value: value,
+        kind,
+        object,
+        field,
+        value,
     }
 }
 
@@ -43,7 +43,7 @@ pub fn cell_with(value: usize, key: u8, keys: KeySet) -> Cell
     ensures { result ≡ cell_of value key keys }
 {
     Cell {
-        keys: keys,
+        keys,
         value: (value % 32) as u32,
         key: key as u32,
     }
@@ -61,17 +61,14 @@ pub fn acted_with(
 ) -> Act
     ensures { result ≡ acted_with go counts keys cell entry mask thread }
 {
-    let object = Object {
-        mask: mask,
-        thread: thread,
-    };
+    let object = Object { mask, thread };
     Act::Done(Acted {
-        go: go,
-        keys: keys,
-        cell: cell,
-        object: object,
-        counts: counts,
-        entry: entry,
+        go,
+        keys,
+        cell,
+        object,
+        counts,
+        entry,
         new: 0,
     })
 }
@@ -90,12 +87,12 @@ pub fn heard(go: Refocusing, counts: Counts, joined: Joined, cell: Cell, entry: 
     let keys = joined.keys;
     let object = Object { mask: 0, thread: 8 };
     Act::Done(Acted {
-        go: go,
-        keys: keys,
-        cell: cell,
-        object: object,
-        counts: counts,
-        entry: entry,
+        go,
+        keys,
+        cell,
+        object,
+        counts,
+        entry,
         new: joined.new,
     })
 }

@@ -69,7 +69,7 @@ pub fn put(log: &mut [u8], tally: Tally, thread: usize, entry: Entry) -> Tally
     );
     let counts = tally.counts;
     Tally {
-        counts: counts,
+        counts,
         moves: tally.moves,
         records: tally.records + 1,
     }
@@ -105,7 +105,7 @@ pub fn moved(tally: Tally, counts: Counts) -> Tally
     ensures { (result ≡ tally_moved tally counts) × (result.moves ≤ tally.moves + 1) }
 {
     Tally {
-        counts: counts,
+        counts,
         moves: tally.moves + 1,
         records: tally.records,
     }
@@ -123,18 +123,12 @@ pub fn result(
     ensures { result ≡ result_of stop picks then moves records threads }
 {
     let outcome = Outcome {
-        stop: stop,
-        picks: picks,
+        stop,
+        picks,
         moves: then.moves,
         records: then.records,
-        threads: threads,
+        threads,
     };
-    let before = Before {
-        moves: moves,
-        records: records,
-    };
-    Ran {
-        outcome: outcome,
-        before: before,
-    }
+    let before = Before { moves, records };
+    Ran { outcome, before }
 }

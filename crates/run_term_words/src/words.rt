@@ -17,13 +17,11 @@ pub fn value(words: &[usize; 1024], environment: usize, term: usize) -> usize
 {
     let word = word(words, term);
     let tag = plan_operands::tag(word);
-    if tag == tags::NULL {
-        return 0;
+    match tag {
+        tags::NULL => 0,
+        tags::VARIABLE => crate::slots::slot(environment, plan_operands::slot_of(word)),
+        _ => 32,
     }
-    if tag == tags::VARIABLE {
-        return crate::slots::slot(environment, plan_operands::slot_of(word));
-    }
-    32
 }
 
 // The value of a condition that needs no move, 0 false and 1 true; 2 where it needs one. `not true` is the value false.
@@ -32,14 +30,16 @@ pub fn truth(words: &[usize; 1024], term: usize) -> usize
 {
     let word = word(words, term);
     let tag = plan_operands::tag(word);
-    if tag == tags::TRUE {
-        return 1;
-    }
-    if tag == tags::NOT {
-        let operand = crate::words::word(words, plan_operands::first(word));
-        if plan_operands::tag(operand) == tags::TRUE {
-            return 0;
+    match tag {
+        tags::TRUE => 1,
+        tags::NOT => {
+            let operand = crate::words::word(words, plan_operands::first(word));
+            if plan_operands::tag(operand) == tags::TRUE {
+                0
+            } else {
+                2
+            }
         }
+        _ => 2,
     }
-    2
 }

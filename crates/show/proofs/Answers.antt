@@ -1,8 +1,8 @@
 -- The answer and the area, by what refuses. Assumes nothing.
 use Prim.Native.Nat.{ℕ, ◌≤◌, ◌<◌}
 use mathlib.Core.Path.{◌≡◌, refl, sym, ap, subst, ◌∙◌}
-use mathlib.Core.Logic.{◌⊎◌, inl, inr}
-use mathlib.Core.List.{List, [], ◌∷◌, ◌++◌}
+use mathlib.Core.Logic.{inl, inr}
+use mathlib.Core.List.{List, [], ◌∷◌}
 use mathlib.Core.Option.{Option, some, none}
 use lib.ListN.{length}
 use borrow.Author.Tests.{lt-ltb, le-ltb}
@@ -13,16 +13,16 @@ use Rattle.format.proofs.RefusalLaws.{refusal_append}
 use Rattle.plan_packed.specs.Trees.{program_of}
 use Rattle.plan_packed.specs.Check.{checks, refusal}
 use Rattle.plan_refusals.specs.Answer as refusals
-use Rattle.plan_refusals.specs.declared.Checked.{Checked}
-use Rattle.plan_refusals.specs.declared.Checked.TheVariants as checked
+use Rattle.plan_refusals.proofs.Stages.{Checked}
+use Rattle.refusals.specs.declared.Refusal as code
+use Rattle.refusals.specs.Numbers.{refusal_of}
+use Rattle.std.specs.Prelude.{Result, Err}
 use Rattle.answers.specs.Answer.{answered, answer_by, value, refused}
-use Rattle.answers.specs.declared.Answered.{Answered}
-use Rattle.answers.specs.declared.Answered.TheVariants.{Value, Refused}
 use Rattle.plan_notation.specs.Shown.{shown_plan}
 use Rattle.plan_notation.specs.Layout.{laid_out}
 use Rattle.plan_notation.specs.Text.{text_of_program, shown_text}
 use Rattle.show.specs.Show.{short_for_text, show_checks, show_refusal, show_answer, shown_by, show_area}
-use Rattle.show.specs.Inner.Begun.{TooShort, Overwritten, TextWritten}
+use Rattle.show.specs.Inner.Begun.{TextWritten}
 
 module _ (plan area : List ℕ) where
   abbrev pub text_checks : List Check
@@ -42,11 +42,11 @@ module _ (plan area : List ℕ) where
   by_none s = (sym (ap (λ (o : Option Refusal). answer_by o (length (shown_text plan))) s), sym (ap (shown_by plan area) s))
 
   -- the plan is refused
-  pub plan_refused : (r : Checked) (k i : ℕ) → refusals.answered r ≡ refusal plan → r ≡ checked.Refused k i
-      → (answered (Refused k i) ≡ show_answer plan area) × (area ≡ show_area plan area)
+  pub plan_refused : (r : Checked) (c : code.Refusal) → refusals.answered r ≡ refusal plan → r ≡ Err c
+      → (answered (Err c) ≡ show_answer plan area) × (area ≡ show_area plan area)
   unfolding refusals.answered or_else
-  plan_refused r k i e q =
-      let s : refusal plan ≡ some (record { number = k; place = i }) = sym e ∙ ap refusals.answered q in by_refusal _ (stages ∙ rw s refl)
+  plan_refused r c e q =
+      let s : refusal plan ≡ some (refusal_of c) = sym e ∙ ap refusals.answered q in by_refusal _ (stages ∙ rw s refl)
 
   -- the plan passes
   module _ (h : refusal plan ≡ none) where
@@ -65,7 +65,7 @@ module _ (plan area : List ℕ) where
         whole_none (short_for_text plan area) (le-ltb (length area) (length (shown_text plan)) l) in passed ∙ rw m refl
 
     -- the text of its tokens is its text
-    pub text_written : (ts area' : List ℕ) (r : Answered) → ts ≡ shown_plan (program_of plan) → TextWritten ts area area' r
+    pub text_written : (ts area' : List ℕ) (r : Result ℕ code.Refusal) → ts ≡ shown_plan (program_of plan) → TextWritten ts area area' r
         → (answered r ≡ show_answer plan area) × (area' ≡ show_area plan area)
     unfolding shown_text text_of_program
     text_written ts area' r e (inl w) =

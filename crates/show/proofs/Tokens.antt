@@ -3,16 +3,15 @@ use Prim.Native.Nat.{ℕ, ◌-◌, ◌≤◌, ◌<◌}
 use native.Mathlib.Omega.{arith}
 use mathlib.Core.Path.{◌≡◌, sym, ap, subst, ◌∙◌}
 use mathlib.Core.List.{List}
-use mathlib.Core.Option.{none}
 use lib.ListN.{length, take}
 use Rattle.plan_packed.specs.Format.{terms}
 use Rattle.plan_packed.specs.Inner.Steps.{Loaded}
 use Rattle.plan_packed.specs.Trees.{program_of}
 use Rattle.plan_packed.specs.Check.{refusal}
 use Rattle.plan_refusals.specs.Answer.{answered}
-use Rattle.plan_refusals.specs.declared.Checked.{Checked}
-use Rattle.plan_refusals.specs.declared.Checked.TheVariants.{Passed}
-use Rattle.plan_refusals.proofs.Stages.{passed_none}
+use Rattle.plan_refusals.proofs.Stages.{Checked, passed_none}
+use Rattle.refusals.specs.declared.Refusal.{Refusal}
+use Rattle.std.specs.Prelude.{Result, Ok}
 use Rattle.plan_written.proofs.RightPlans.{right_program}
 use Rattle.text.specs.Inner.Wrote.{Wrote}
 use Rattle.plan_notation.specs.Inner.Known.{Known}
@@ -20,11 +19,10 @@ use Rattle.plan_notation.specs.Shown.{shown_plan}
 use Rattle.plan_notation.proofs.ShownCodes.{plan_fit, known}
 use Rattle.plan_layout.specs.Inner.Marks.{LaidWithin}
 use Rattle.plan_tokens.specs.Inner.Begun.{Given}
-use Rattle.answers.specs.declared.Answered.{Answered}
 use Rattle.show.specs.Inner.Begun.{BytesWritten, TextWritten}
 
-pub given : {plan words : List ℕ} {r : Checked} → answered r ≡ refusal plan → (r ≡ Passed → Loaded plan (terms plan) words) → r ≡ Passed → Given plan words
-given {plan} {words} {r} e l q = record { passes = passed_none (refusal plan) r e q; loaded = l q }
+pub given : {plan words : List ℕ} {r : Checked} {u : Unit {0}} → answered r ≡ refusal plan → r ≡ Ok u → Loaded plan (terms plan) words → Given plan words
+given {plan} {r = r} e q l = record { passes = passed_none (refusal plan) r e q; loaded = l }
 
 -- the first n bytes of the array, as the code takes them
 first_tokens : (plan : List ℕ) {a b : List ℕ} {n : ℕ} → Wrote a 0 (shown_plan (program_of plan)) b n → take (n - 0) b ≡ shown_plan (program_of plan)
@@ -38,7 +36,7 @@ pub tokens_length : (plan : List ℕ) {a b : List ℕ} {n : ℕ} → Wrote a 0 (
 tokens_length plan w = ap length (first_tokens plan w)
 
 -- what is written of them is written of the plan's tokens
-pub plan_text_lem : (plan : List ℕ) {a b area area' : List ℕ} {n : ℕ} {r : Answered} → Wrote a 0 (shown_plan (program_of plan)) b n
+pub plan_text_lem : (plan : List ℕ) {a b area area' : List ℕ} {n : ℕ} {r : Result ℕ Refusal} → Wrote a 0 (shown_plan (program_of plan)) b n
     → TextWritten (take (n - 0) b) area area' r → TextWritten (shown_plan (program_of plan)) area area' r
 plan_text_lem plan {area = area} {area'} {r = r} w t = subst (λ (ts : List ℕ). TextWritten ts area area' r) (first_tokens plan w) t
 
@@ -50,7 +48,7 @@ known_tokens {plan} g w =
     (subst Known (sym e) (known f), omega (arith, ap length e, f.few))
 
 -- what a room begins with is the text of the tokens that were laid out in it
-pub room_text : {ts room area area' : List ℕ} {n : ℕ} {r : Answered} → LaidWithin ts room n → 0 < n → BytesWritten (take (n - 0) room) area area' r
+pub room_text : {ts room area area' : List ℕ} {n : ℕ} {r : Result ℕ Refusal} → LaidWithin ts room n → 0 < n → BytesWritten (take (n - 0) room) area area' r
     → TextWritten ts area area' r
 room_text {ts} {room} {area} {area'} {n} {r} l h w =
     subst (λ (bytes : List ℕ). BytesWritten bytes area area' r) (ap (λ (m : ℕ). take m room) (same n) ∙ l.laid h) w

@@ -16,7 +16,7 @@
 
 ghost use Rattle.std.specs.Prelude.{◌+◌, ◌≤◌, length};
 
-use judge::Judgement;
+use refusals::Refusal;
 
 // What every lent area is filled with before a play.
 const FILL: u8 = 165;
@@ -144,12 +144,12 @@ pub fn run_case(case: &[u8]) -> bool {
 }
 
 // A judgement as judge returns it: no number, place or index of one comes near 65,536.
-fn judged_number(judgement: Judgement) -> u64 {
+fn judged_number(judgement: Result<Option<usize>, Refusal>) -> u64 {
     match judgement {
-        Judgement::Ordered => 0,
-        Judgement::Unordered(index) => 4294967296 + (index % 65536) as u64,
-        Judgement::Refused { number, place } => {
-            8589934592 + (number % 65536 * 65536 + place % 65536) as u64
+        Ok(None) => 0,
+        Ok(Some(index)) => 4294967296 + (index % 65536) as u64,
+        Err(refused) => {
+            8589934592 + (refused.number() % 65536 * 65536 + refused.place % 65536) as u64
         }
     }
 }

@@ -1,5 +1,5 @@
 -- Bytes added to the text of an area: none, one, and some behind others. Assumes nothing.
-use Prim.Native.Nat.{ℕ, ◌+◌, ◌<◌}
+use Prim.Native.Nat.{ℕ, ◌+◌, ◌<◌, ◌≤◌}
 use native.Mathlib.Nat.{add_assoc, add-zero}
 use native.Mathlib.Numerals.{add-one}
 use native.Mathlib.Omega.{arith}
@@ -7,6 +7,9 @@ use mathlib.Core.Path.{◌≡◌, refl, sym, ap, ◌∙◌}
 use mathlib.Core.List.{List, [], ◌∷◌, ◌++◌, append-nil, append_assoc}
 use lib.ListN.{length, length-append, take, drop, take-append-drop, set, length-set}
 use lib.Seq.{take-suc-set, drop-set-lt, drop-drop}
+use borrow.Author.Rules.{rules}
+use borrow.Rule.Slice.PartMut.{put_mid}
+use Rattle.std.proofs.lemmas.Slice.{overwrites}
 use Rattle.text.specs.Inner.Wrote.{Wrote}
 
 pub added_none : (a : List ℕ) (at : ℕ) → Wrote a at [] a at
@@ -15,6 +18,11 @@ added_none a at = record { next = sym (add-zero at); kept = refl; text = sym (ap
 pub added_one : (a : List ℕ) (at b : ℕ) → at < length a → Wrote a at (b ∷ []) (set a at b) (at + 1)
 added_one a at b h =
     record { next = refl; kept = length-set a at b; text = rw add-one (take-suc-set a at b h); rest = drop-set-lt (at + 1) a at b (omega arith) }
+
+-- a part of the area takes the bytes
+pub added_part : (a xs : List ℕ) (at k r : ℕ) → at + k ≤ length a → length xs ≡ k → r ≡ at + k → Wrote a at xs (put_mid at k a xs) r
+added_part a xs at k r h e n =
+    record { next = omega arith; kept = search (rules, overwrites); text = search (rules, overwrites); rest = search (rules, overwrites) }
 
 -- what is the same past a place is the same past any later place
 same_past : (a b : List ℕ) (m n r : ℕ) → r ≡ m + n → drop m b ≡ drop m a → drop r b ≡ drop r a

@@ -17,13 +17,9 @@ pub fn put_word(area: &mut [u8], at: usize, word: &[u8]) -> usize
     requires { at + length word.now ≤ length area.old }
     ensures { Wrote area.old at word.now area.new result }
 {
-    let mut next = at;
-    let mut index = 0;
-    while index < word.len() {
-        next = put_byte(area, next, word[index]);
-        index += 1;
-    }
-    next
+    let end = at + word.len();
+    area[at..end].copy_from_slice(word);
+    end
 }
 
 // The decimal digits of a number, no zero in front.
@@ -32,10 +28,10 @@ pub fn put_number(area: &mut [u8], at: usize, number: usize) -> usize
     ensures { Wrote area.old at (decimal number) area.new result }
 {
     if number < 10 {
-        return put_byte(area, at, 48 + number as u8);
+        return put_byte(area, at, b'0' + number as u8);
     }
     let next = put_number(area, at, number / 10);
-    put_byte(area, next, 48 + (number % 10) as u8)
+    put_byte(area, next, b'0' + (number % 10) as u8)
 }
 
 // A space and a number.
@@ -43,6 +39,6 @@ pub fn put_column(area: &mut [u8], at: usize, number: usize) -> usize
     requires { at + length (32 ∷ decimal number) ≤ length area.old }
     ensures { Wrote area.old at (32 ∷ decimal number) area.new result }
 {
-    let next = put_byte(area, at, 32);
+    let next = put_byte(area, at, b' ');
     put_number(area, next, number)
 }

@@ -11,21 +11,10 @@ use Rattle.format.specs.Refusal.{Refusal}
 use Rattle.format.proofs.AreaLaws.{overwrite_covers}
 use Rattle.text.specs.Inner.Wrote.{Wrote}
 use Rattle.text_refusal_lines.specs.Lines.{refusal_lines}
-use Rattle.answers.specs.Answer.{Answer, value, refused, answer_by, answered}
-use Rattle.answers.specs.declared.Answered.{Answered}
-use Rattle.answers.specs.declared.Answered.TheVariants as answer
+use Rattle.answers.specs.Answer.{Answer, value, refused, answer_by}
 use Rattle.text_answer_lines.specs.Texts.{text_by}
 use Rattle.text_answer_lines.specs.Inner.Told.{Told, Settled}
 use Rattle.text_answer_lines.proofs.Areas.{overwritten, wrote_within}
-
--- ---- by the answer of the code
-
-pub value_settled : {x : Answered} {n : ℕ} (area : List ℕ) → x ≡ answer.Value n → Settled (answered x) area area n
-value_settled {n = n} area e = along (λ (y : Answered). Settled (answered y) area area n) (sym e) (refl, refl)
-
-pub refused_settled : {x : Answered} {k i r : ℕ} {before after : List ℕ} → x ≡ answer.Refused k i
-    → Wrote before 0 (refusal_lines (record { number = k; place = i })) after r → Settled (answered x) before after r
-refused_settled {r = r} {before = before} {after = after} e w = along (λ (y : Answered). Settled (answered y) before after r) (sym e) w
 
 -- ---- a tool whose answer and area are functions of what refuses it
 

@@ -23,10 +23,8 @@ fn put_channels(area: &mut [u8], at: usize) -> usize
     ensures within { result ≤ at + 576 }
 {
     let mut next = at;
-    let mut object = 0;
-    while object < 32 {
+    for object in 0..32 {
         next = put_channel(area, next, object);
-        object += 1;
     }
     next
 }

@@ -9,13 +9,11 @@ pub fn lane_count(log: &[u8]) -> usize
     ensures { (result ≡ lane_count (log_of log.now)) × (result ≤ 8) }
 {
     let mut lanes = 0;
-    let mut index = 0;
-    while index < log.len() / 3 {
+    for index in 0..log.len() / 3 {
         let columns = log_packing::columns_at(log, index);
         if lanes <= columns.thread {
             lanes = columns.thread + 1;
         }
-        index += 1;
     }
     lanes
 }
@@ -40,10 +38,8 @@ pub fn put_lanes(area: &mut [u8], at: usize, lanes: usize, records: usize) -> us
     ensures { Drawn 960 area.old at (lane_texts records lanes) area.new result }
 {
     let mut next = at;
-    let mut thread = 0;
-    while thread < lanes {
+    for thread in 0..lanes {
         next = put_lane(area, next, thread, records);
-        thread += 1;
     }
     next
 }

@@ -20,7 +20,7 @@ pub fn put_diagram(
     starts: &[u16],
     ends: &[u16],
     count: usize,
-    race: Race,
+    race: Option<Race>,
 ) -> usize
     requires { Room log.now starts.now ends.now count race at (length area.old) }
     ensures wrote { Wrote area.old at

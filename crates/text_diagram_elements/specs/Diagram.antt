@@ -1,12 +1,12 @@
 -- The picture of a log as SVG text: a lane for each thread, a row for each record, arrows between records, and a race in red. Assumes nothing.
 use Rattle.std.specs.Prelude.{ℕ, zero, suc, ◌+◌, ◌*◌, max, Bool, false, cond, ◌||◌, List, [], ◌∷◌, ◌++◌, eqb, length, get_or}
+use Rattle.std.specs.Prelude.{Option as CodeOption, Some, None}
 use Rattle.std.proofs.Math.Option.{Option, some, none}
 use Rattle.std.proofs.Math.ListN.{get_elem?}
 use Rattle.log_records.specs.Record.{Record}
 use Rattle.text.specs.Text.{ascii, decimal}
 use Rattle.text_record_lines.specs.Lines.{record_line}
 use Rattle.text_diagram_elements.specs.declared.Race.{Race}
-use Rattle.text_diagram_elements.specs.declared.Race.TheVariants.{Between, Nowhere}
 
 -- ---- places
 
@@ -168,6 +168,6 @@ arrows_of starts ends zero = []
 arrows_of starts ends (suc n) = arrows_of starts ends n ++ ((get_or starts n 0, get_or ends n 0) ∷ [])
 
 -- the two records of a race, as the code has them
-abbrev pub race_of : Race → Option (ℕ × ℕ)
-race_of (Between write access) = some (write, access)
-race_of Nowhere = none
+abbrev pub race_of : CodeOption Race → Option (ℕ × ℕ)
+race_of (Some race) = some (race.write, race.access)
+race_of None = none

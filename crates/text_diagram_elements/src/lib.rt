@@ -5,12 +5,11 @@ ghost use Rattle.std.specs.Prelude.{◌+◌, ◌≤◌, ◌<◌, length};
 ghost use Rattle.text_diagram_elements.specs.Diagram.{attribute, segment};
 ghost use Rattle.text_diagram_elements.specs.Inner.Drawn.{Drawn, Inside};
 
-// The race that is drawn.
+// A race that is drawn: the indices of its last write and of the access that is unordered after it.
 #[derive(Clone, Copy)]
-pub enum Race {
-    // The indices of its last write and of the access that is unordered after it.
-    Between { write: usize, access: usize },
-    Nowhere,
+pub struct Race {
+    pub write: usize,
+    pub access: usize,
 }
 
 // A name and a number of at most five digits.

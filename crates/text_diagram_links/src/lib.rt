@@ -42,23 +42,21 @@ pub fn put_arrows(
         (arrow_texts (log_of log.now) (arrows_of starts.now ends.now count)) area.new result }
 {
     let mut next = at;
-    let mut index = 0;
-    while index < count {
+    for index in 0..count {
         let start = starts[index] as usize;
         let end = ends[index] as usize;
         next = put_between(area, next, log, b"arrow", start, end);
-        index += 1;
     }
     next
 }
 
 // The line between the two records of a race.
-pub fn put_race(area: &mut [u8], at: usize, log: &[u8], race: Race) -> usize
+pub fn put_race(area: &mut [u8], at: usize, log: &[u8], race: Option<Race>) -> usize
     requires { (length log.now ≤ 12288) × RaceInside race (length log.now / 3) × (at + 65 ≤ length area.old) }
     ensures { Drawn 65 area.old at (race_text (log_of log.now) (race_of race)) area.new result }
 {
     match race {
-        Race::Between { write, access } => put_between(area, at, log, b"race", write, access),
-        Race::Nowhere => at,
+        Some(race) => put_between(area, at, log, b"race", race.write, race.access),
+        None => at,
     }
 }

@@ -12,24 +12,25 @@ use log_packing::Columns;
 use text_diagram_elements::Race;
 
 // Whether a record is one of the two of a race.
-fn in_race(race: Race, index: usize) -> bool
+fn in_race(race: Option<Race>, index: usize) -> bool
     ensures { result ≡ in_race (race_of race) index }
 {
     match race {
-        Race::Between { write, access } => index == write || index == access,
-        Race::Nowhere => false,
+        Some(race) => index == race.write || index == race.access,
+        None => false,
     }
 }
 
 // Red for the two of a race.
-fn put_colour(area: &mut [u8], at: usize, race: Race, index: usize) -> usize
+fn put_colour(area: &mut [u8], at: usize, race: Option<Race>, index: usize) -> usize
     requires { at + 5 ≤ length area.old }
     ensures { Drawn 5 area.old at (colour (race_of race) index) area.new result }
 {
     if in_race(race, index) {
-        return text::put_word(area, at, b"red");
+        text::put_word(area, at, b"red")
+    } else {
+        text::put_word(area, at, b"black")
     }
-    text::put_word(area, at, b"black")
 }
 
 // A mark.
@@ -61,7 +62,7 @@ fn put_row(
     area: &mut [u8],
     at: usize,
     lanes: usize,
-    race: Race,
+    race: Option<Race>,
     index: usize,
     columns: Columns,
 ) -> usize
@@ -80,17 +81,15 @@ fn put_row(
 }
 
 // The rows of all records.
-pub fn put_rows(area: &mut [u8], at: usize, log: &[u8], lanes: usize, race: Race) -> usize
+pub fn put_rows(area: &mut [u8], at: usize, log: &[u8], lanes: usize, race: Option<Race>) -> usize
     requires { (lanes ≤ 8) × (length log.now ≤ 12288) × (at + 192 * (length log.now / 3) ≤ length area.old) }
     ensures { Drawn (192 * (length log.now / 3)) area.old at
         (row_texts lanes (race_of race) 0 (log_of log.now)) area.new result }
 {
     let mut next = at;
-    let mut index = 0;
-    while index < log.len() / 3 {
+    for index in 0..log.len() / 3 {
         let columns = log_packing::columns_at(log, index);
         next = put_row(area, next, lanes, race, index, columns);
-        index += 1;
     }
     next
 }

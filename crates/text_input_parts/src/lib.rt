@@ -12,10 +12,7 @@ pub fn cut_short(input: &[u8]) -> bool
         return true;
     }
     let length = byte_numbers::half(input, 0);
-    if length > 5192 {
-        return true;
-    }
-    input.len() < 2 + length
+    length > 5192 || input.len() < 2 + length
 }
 
 pub fn plan_of(input: &[u8]) -> &[u8]

@@ -1,5 +1,5 @@
 -- One byte more: of what every byte passes, of the picks of a text, of a number, of a line of digits. Assumes nothing.
-use Prim.Native.Nat.{ℕ, zero, suc, ◌≤◌, ◌<◌}
+use Prim.Native.Nat.{ℕ, suc, ◌≤◌, ◌<◌}
 use native.Mathlib.Omega.{arith}
 use mathlib.Core.Path.{◌≡◌, refl, sym, ap, ◌∙◌}
 use mathlib.Core.Bool.{Bool, true, false, ◌&&◌}
@@ -8,35 +8,16 @@ use lib.Dec.{leb}
 use lib.ListN.{length, get_or, take}
 use lib.Seq.{take-suc}
 use borrow.Author.Tests.{leb-true}
+use Rattle.std.specs.List.{list_all}
 use Rattle.text_inputs.specs.Schedules.{every, is_digit, pick_of, digit_picks, digit_of, digits_of}
 use Rattle.text_inputs.specs.Numerals.{with_digit, number_from}
 
 -- ---- every byte
 
-module _ (f : ℕ → Bool) where
-  rest_passes : (x : ℕ) (xs : List ℕ) (b : Bool) → f x ≡ b → every f (x ∷ xs) ≡ true → (f x ≡ true) × (every f xs ≡ true)
-  unfolding every
-  rest_passes x xs true e h = (e, simp e at h)
-  rest_passes x xs false e h = absurd (let z : ◌≡◌ {A = Bool} false true = simp e at h in let y : ◌≡◌ {A = ℕ} 0 1 = cc in omega arith)
-
-  every_snoc : (xs : List ℕ) (c : ℕ) → every f xs ≡ true → f c ≡ true → every f (xs ++ (c ∷ [])) ≡ true
-  unfolding every
-  every_snoc [] c h g = simp g
-  every_snoc (x ∷ xs) c h g = let r = rest_passes x xs (f x) refl h in simp (r.0, every_snoc xs c r.1 g)
-
-  pub every_more : (l : List ℕ) (i : ℕ) → i < length l → every f (take i l) ≡ true → f (get_or l i 0) ≡ true → every f (take (suc i) l) ≡ true
-  every_more l i h e g = rw (take-suc l i 0) (every_snoc (take i l) (get_or l i 0) e g)
-
-  fails_by : (x : ℕ) (xs : List ℕ) (b : Bool) → f x ≡ b → every f xs ≡ false → every f (x ∷ xs) ≡ false
-  unfolding every
-  fails_by x xs true e h = simp (e, h)
-  fails_by x xs false e h = simp e
-
-  pub every_fails : (l : List ℕ) (i : ℕ) → i < length l → f (get_or l i 0) ≡ false → every f l ≡ false
-  unfolding every
-  every_fails [] i h g = absurd (omega arith)
-  every_fails (x ∷ xs) zero h g = simp g
-  every_fails (x ∷ xs) (suc i) h g = fails_by x xs (f x) refl (every_fails xs i (omega arith) g)
+pub all_every : (f : ℕ → Bool) (xs : List ℕ) → list_all f xs ≡ every f xs
+unfolding every
+all_every f [] = refl
+all_every f (x ∷ xs) = ap (λ (b : Bool). f x && b) (all_every f xs)
 
 -- ---- the picks of a text
 

@@ -1,15 +1,14 @@
 -- What is taken for text: no packed plan that passes and no packed schedule that passes, and all that is shown of a plan. Assumes nothing.
-use Prim.Native.Nat.{ℕ, zero, suc, ◌+◌, ◌*◌, ◌≤◌, ◌<◌}
+use Prim.Native.Nat.{ℕ, ◌+◌, ◌*◌, ◌≤◌, ◌<◌}
 use native.Mathlib.Omega.{arith}
-use mathlib.Core.Path.{◌≡◌, refl, sym, ap, ◌∙◌}
-use mathlib.Core.Bool.{Bool, true, false, cond, ◌||◌}
+use mathlib.Core.Path.{◌≡◌, refl}
+use mathlib.Core.Bool.{true, false, ◌||◌}
 use mathlib.Core.List.{List, [], ◌∷◌}
 use mathlib.Core.Option.{none}
-use lib.Dec.{eqb, ltb, leb}
-use lib.ListN.{length, get_or}
+use lib.ListN.{get_or}
 use borrow.Author.Tests.{ne_eqb, le-ltb, lt-leb}
 use Rattle.format.specs.Bits.{bits_at}
-use Rattle.format.proofs.BitLaws.{bits_add, bits_below, byte_at}
+use Rattle.format.proofs.BitLaws.{bits_add, byte_at}
 use Rattle.plan_packed.specs.Format.{version, procedures}
 use Rattle.plan_packed.specs.Check.{refusal}
 use Rattle.plan_packed.proofs.Accepted.{Accepted, accepted}

@@ -9,14 +9,7 @@ use byte_numbers::wide;
 pub fn is_numeral(bytes: &[u8]) -> bool
     ensures { result ≡ is_numeral bytes.now }
 {
-    let mut index = 0;
-    while index < bytes.len() {
-        if !schedules::is_digit(bytes[index]) {
-            return false;
-        }
-        index += 1;
-    }
-    0 < bytes.len()
+    !bytes.is_empty() && bytes.iter().all(|byte| schedules::is_digit(*byte))
 }
 
 // One digit more.
@@ -25,10 +18,7 @@ fn with_digit(number: usize, byte: u8) -> usize
     ensures { (result ≡ with_digit number byte) × (result < 1000256) }
 {
     if number < 100000 {
-        if byte < b'0' {
-            return number * 10;
-        }
-        return number * 10 + wide(byte - b'0');
+        return number * 10 + wide(byte.saturating_sub(b'0'));
     }
     number
 }
@@ -38,10 +28,8 @@ pub fn number_of(bytes: &[u8]) -> usize
     ensures { result ≡ number_of bytes.now }
 {
     let mut number = 0;
-    let mut index = 0;
-    while index < bytes.len() {
-        number = with_digit(number, bytes[index]);
-        index += 1;
+    for byte in bytes {
+        number = with_digit(number, *byte);
     }
     number
 }

@@ -14,9 +14,8 @@ pub fn is_blank(byte: u8) -> bool
 pub fn is_text(bytes: &[u8]) -> bool
     ensures { result ≡ is_text bytes.now }
 {
-    if bytes.len() == 0 {
-        return false;
+    match bytes.first() {
+        Some(first) => is_blank(*first) || b' ' < *first,
+        None => false,
     }
-    let first = bytes[0];
-    is_blank(first) | (b' ' < first)
 }

@@ -23,14 +23,7 @@ fn is_digit_or_blank(byte: u8) -> bool
 pub fn is_digits(bytes: &[u8]) -> bool
     ensures { result ≡ is_digits bytes.now }
 {
-    let mut index = 0;
-    while index < bytes.len() {
-        if !is_digit_or_blank(bytes[index]) {
-            return false;
-        }
-        index += 1;
-    }
-    true
+    bytes.iter().all(|byte| is_digit_or_blank(*byte))
 }
 
 // The pick of a byte, if it is a digit.
@@ -50,10 +43,8 @@ fn put_digit_picks(area: &mut [u8], bytes: &[u8]) -> usize
     ensures { Wrote area.old 0 (digit_picks bytes.now) area.new result }
 {
     let mut next = 0;
-    let mut index = 0;
-    while index < bytes.len() {
-        next = put_pick(area, next, bytes[index]);
-        index += 1;
+    for byte in bytes {
+        next = put_pick(area, next, *byte);
     }
     next
 }
@@ -82,10 +73,8 @@ pub fn put_digit_line(area: &mut [u8], at: usize, picks: &[u8]) -> usize
     ensures { Wrote area.old at (digit_line picks.now) area.new result }
 {
     let mut next = at;
-    let mut index = 0;
-    while index < picks.len() {
-        next = text::put_byte(area, next, digit_of(picks[index]));
-        index += 1;
+    for pick in picks {
+        next = text::put_byte(area, next, digit_of(*pick));
     }
     text::put_byte(area, next, b'\n')
 }

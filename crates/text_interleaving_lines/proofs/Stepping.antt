@@ -13,15 +13,15 @@ use Rattle.format.proofs.AreaLaws.{overwrite_first, overwrite_covers}
 use Rattle.plan_packed.specs.Trees.{program_of}
 use Rattle.text.specs.Inner.Wrote.{Wrote}
 use Rattle.answers.specs.Answer.{value, refused, answered}
-use Rattle.answers.specs.declared.Answered.{Answered}
-use Rattle.answers.specs.declared.Answered.TheVariants as answer
+use Rattle.std.specs.Prelude as rust
+use Rattle.std.specs.Prelude.{Result, Ok, Err, Some, None}
+use Rattle.refusals.specs.declared.Refusal as code
+use Rattle.refusals.specs.Numbers.{refusal_of}
 use Rattle.listing.specs.Listed.{Listed, First, Following, Over}
 use Rattle.listing_answers.specs.Interleavings as papers
 use Rattle.listing_answers.specs.Interleavings.{FirstAnswer, NextAnswer, first_refused, next_refused}
 use Rattle.interleavings.specs.Answer as nexts
 use Rattle.interleavings.specs.Count.{count_refused}
-use Rattle.interleavings.specs.declared.Next.{Next}
-use Rattle.interleavings.specs.declared.Next.TheVariants as next
 use Rattle.text_interleaving_lines.specs.Inner.Steps.{Here, Begun, Advanced}
 use Rattle.text_interleaving_lines.proofs.Refusals.{first_as_count, bound_of, next_passes}
 
@@ -48,12 +48,12 @@ module _ (plan : List ℕ) (n : ℕ) (area : List ℕ) (long : 64 ≤ length are
         is_first = along (First (program_of plan) n) (sym is) f;
       }
 
-  module _ (x : Answered) (after : List ℕ) (h : FirstAnswer plan n area (answered x) after) where
-    pub first_refused_lem : (k i : ℕ) → x ≡ answer.Refused k i → count_refused plan n ≡ some (record { number = k; place = i })
-    first_refused_lem k i e = refused_by (along (λ (y : Answered). FirstAnswer plan n area (answered y) after) e h)
+  module _ (x : Result ℕ code.Refusal) (after : List ℕ) (h : FirstAnswer plan n area (answered x) after) where
+    pub first_refused_lem : (c : code.Refusal) → x ≡ Err c → count_refused plan n ≡ some (refusal_of c)
+    first_refused_lem c e = refused_by (along (λ (y : Result ℕ code.Refusal). FirstAnswer plan n area (answered y) after) e h)
 
-    pub first_begun : (m : ℕ) → x ≡ answer.Value m → length after ≡ length area → Begun plan n after m
-    first_begun m e = begun_by_lem (along (λ (y : Answered). FirstAnswer plan n area (answered y) after) e h)
+    pub first_begun : (m : ℕ) → x ≡ Ok m → length after ≡ length area → Begun plan n after m
+    first_begun m e = begun_by_lem (along (λ (y : Result ℕ code.Refusal). FirstAnswer plan n area (answered y) after) e h)
 
 -- ---- the following one
 
@@ -89,21 +89,21 @@ module _ (plan : List ℕ) (n : ℕ) (schedule : List ℕ) (picks : ℕ) (s : He
   means (NextAnswer.OVER e l h o) = o
 
   -- by the answer of the code
-  module _ (x : Next) (after : List ℕ) (h : NextAnswer plan n given room (nexts.answered x) after) where
+  module _ (x : Result (rust.Option ℕ) code.Refusal) (after : List ℕ) (h : NextAnswer plan n given room (nexts.answered x) after) where
     so : Means (nexts.answered x) after
     so = means h
 
-    pub next_written : (m : ℕ) → x ≡ next.Written m → Means (papers.Next.written m) after
-    next_written m e = along (λ (y : Next). Means (nexts.answered y) after) e so
+    pub next_written : (m : ℕ) → x ≡ Ok (Some m) → Means (papers.Next.written m) after
+    next_written m e = along (λ (y : Result (rust.Option ℕ) code.Refusal). Means (nexts.answered y) after) e so
 
-    pub next_over : x ≡ next.Over → Over (program_of plan) n (take picks schedule)
-    next_over e = along (Over (program_of plan) n) (sym same) (along (λ (y : Next). Means (nexts.answered y) after) e so)
+    pub next_over : x ≡ Ok None → Over (program_of plan) n (take picks schedule)
+    next_over e = along (Over (program_of plan) n) (sym same) (along (λ (y : Result (rust.Option ℕ) code.Refusal). Means (nexts.answered y) after) e so)
 
-    pub next_refused_lem : (k i : ℕ) → x ≡ next.Refused k i → ⊥
-    next_refused_lem k i e = along (λ (y : Next). Means (nexts.answered y) after) e so
+    pub next_refused_lem : (c : code.Refusal) → x ≡ Err c → ⊥
+    next_refused_lem c e = along (λ (y : Result (rust.Option ℕ) code.Refusal). Means (nexts.answered y) after) e so
 
     -- the following one is put in its place
-    pub put_next : (m : ℕ) → x ≡ next.Written m → (late : List ℕ) (r : ℕ) → Wrote schedule 0 (take (m - 0) after) late r
+    pub put_next : (m : ℕ) → x ≡ Ok (Some m) → (late : List ℕ) (r : ℕ) → Wrote schedule 0 (take (m - 0) after) late r
         → Here plan n late r × Following (program_of plan) n (take picks schedule) (take r late)
     put_next m e late r w =
         let t = next_written m e in

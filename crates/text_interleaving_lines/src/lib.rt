@@ -7,34 +7,20 @@ ghost use Rattle.text_answer_lines.specs.Inner.Told.{Told};
 ghost use Rattle.text_interleaving_lines.specs.Lines.{count_line, more_line, InterleavingsText};
 ghost use Rattle.text_interleaving_lines.specs.Inner.Steps.{Here, Begun, Advanced};
 
-use answers::Answered;
-use interleavings::Next;
 use text_inputs::schedules;
 
-// What comes after a schedule.
-#[derive(Clone, Copy)]
-pub enum Step {
-    // The following one, of so many picks.
-    Following(usize),
-    // The list is over.
-    Over,
-}
-
-// From the schedule at the beginning of the area to the following one, in its place. A listed schedule is not refused.
-fn advance(plan: &[u8], n: usize, schedule: &mut [u8], picks: usize) -> Step
+// From the schedule at the beginning of the area to the following one, in its place; none where the list is over. A listed schedule is not refused.
+fn advance(plan: &[u8], n: usize, schedule: &mut [u8], picks: usize) -> Option<usize>
     requires { Here plan.now n schedule.old picks }
     ensures { Advanced plan.now n schedule.old picks schedule.new result }
 {
     let mut after = [0u8; 64];
     let next = interleavings::next_interleaving(plan, n, &schedule[0..picks], &mut after);
-    match next {
-        Next::Written(length) => Step::Following(text::put_word(schedule, 0, &after[0..length])),
-        Next::Over => Step::Over,
-        Next::Refused {
-            number: _,
-            place: _,
-        } => Step::Over,
-    }
+    let Ok(following) = next else {
+        return None;
+    };
+    let length = following?;
+    Some(text::put_word(schedule, 0, &after[0..length]))
 }
 
 // The last line of a list that is whole.
@@ -65,19 +51,12 @@ fn put_list(plan: &[u8], n: usize, schedule: &mut [u8], first: usize, area: &mut
 {
     let mut picks = first;
     let mut at = 0;
-    let mut index = 0;
-    while index < 8192 {
+    for index in 0..8192 {
         at = schedules::put_digit_line(area, at, &schedule[0..picks]);
-        let step = advance(plan, n, schedule, picks);
-        match step {
-            Step::Following(length) => {
-                picks = length;
-                index += 1;
-            }
-            Step::Over => {
-                return put_count(area, at, index + 1);
-            }
-        }
+        let Some(length) = advance(plan, n, schedule, picks) else {
+            return put_count(area, at, index + 1);
+        };
+        picks = length;
     }
     put_more(area, at)
 }
@@ -90,9 +69,7 @@ pub fn interleavings_text(plan: &[u8], n: usize, area: &mut [u8]) -> usize
     let mut schedule = [0u8; 64];
     let first = interleavings::first_interleaving(plan, n, &mut schedule);
     match first {
-        Answered::Refused { number, place } => {
-            text_refusal_lines::put_refusal_lines(area, 0, number, place)
-        }
-        Answered::Value(length) => put_list(plan, n, &mut schedule, length, area),
+        Err(refusal) => text_answer_lines::put_refusal(area, refusal),
+        Ok(length) => put_list(plan, n, &mut schedule, length, area),
     }
 }

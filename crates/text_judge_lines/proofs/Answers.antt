@@ -1,18 +1,18 @@
 -- The text of a log by what the judge answers. Assumes nothing.
-use Prim.Native.Nat.{ℕ, ◌/◌, ◌≤◌}
+use Prim.Native.Nat.{ℕ, ◌≤◌}
 use native.Mathlib.Omega.{arith}
-use mathlib.Core.Path.{◌≡◌, refl, sym, ap, ◌∙◌, subst as along}
+use mathlib.Core.Path.{◌≡◌, sym, ap, ◌∙◌, subst as along}
 use mathlib.Core.List.{List, ◌++◌}
 use mathlib.Core.Option.{some, none}
 use lib.ListN.{length, drop}
 use Rattle.format.specs.Area.{overwrite}
+use Rattle.format.specs.Refusal.{Refusal}
 use Rattle.format.specs.Version.{Version, version_of}
 use Rattle.log_records.specs.Packed.{record_at, log_of}
 use Rattle.log_records.specs.Record.{Record}
 use Rattle.log_records.specs.Refusals.{log_refusal}
 use Rattle.log_order.specs.Chains.{At}
-use Rattle.log_conflicts.specs.Conflicts.{Conflicting}
-use Rattle.log_conflicts.specs.Judge.{refused, named, Names, names_first, names_none, Answers, refuses, judges, AnswersTold, wrong_version, right_version}
+use Rattle.log_conflicts.specs.Judge.{refused, named, names_first, names_none, Answers, refuses, judges, AnswersTold, wrong_version, right_version}
 use Rattle.answers.specs.Answer.{Answer}
 use Rattle.log_packing.specs.declared.Columns.{Columns}
 use Rattle.log_packing.specs.Inner.Columns.{ReadAt}
@@ -49,12 +49,10 @@ module _ {v : Version} (b : List ℕ) (j i : ℕ) (w x : Columns) (L : LastOf v 
 -- ---- the judge's answer
 
 module _ (version : ℕ) (b area : List ℕ) (big : 200 ≤ length area) where
-  refused_by : {k i : ℕ} → version ≤ 1 → Answers (version_of version) b (refused (record { number = k; place = i }))
-      → JudgeTold version b area (Answer.refused (record { number = k; place = i })) area
+  refused_by : {r : Refusal} → version ≤ 1 → Answers (version_of version) b (refused r) → JudgeTold version b area (Answer.refused r) area
   refused_by l (refuses e) = told.refuses big l e
 
-  pub refused_told : {k i : ℕ} → AnswersTold version b (refused (record { number = k; place = i }))
-      → JudgeTold version b area (Answer.refused (record { number = k; place = i })) area
+  pub refused_told : {r : Refusal} → AnswersTold version b (refused r) → JudgeTold version b area (Answer.refused r) area
   refused_told (wrong_version h) = told.wrong_version big h
   refused_told (right_version l a) = refused_by l a
 

@@ -10,8 +10,7 @@ ghost use Rattle.text.specs.Inner.Wrote.{Wrote};
 ghost use Rattle.text_judge_lines.specs.Told.{ordered_line, JudgeTold};
 ghost use Rattle.text_judge_lines.specs.Inner.Search.{Named, WroteConflict};
 
-use answers::Answered;
-use judge::Judgement;
+use refusals::Refusal;
 
 // The line of a log in which the conflicting accesses are ordered.
 fn put_ordered(area: &mut [u8]) -> usize
@@ -35,19 +34,15 @@ fn put_named(area: &mut [u8], version: usize, log: &[u8], later: usize) -> usize
 }
 
 // Every log of a version gets its text at the start of an area of 200 bytes or more, and the text's length; or refusal 14, 11 or 12 as the judge gives it.
-pub fn judge_text(version: usize, log: &[u8], area: &mut [u8]) -> Answered
+pub fn judge_text(version: usize, log: &[u8], area: &mut [u8]) -> Result<usize, Refusal>
     ensures { JudgeTold version log.now area.old (answered result) area.new }
 {
     if area.len() < 200 {
-        return Answered::Value(0);
+        return Ok(0);
     }
-    let judgement = judge::judge(version, log);
-    match judgement {
-        Judgement::Refused { number, place } => Answered::Refused {
-            number: number,
-            place: place,
-        },
-        Judgement::Ordered => Answered::Value(put_ordered(area)),
-        Judgement::Unordered(index) => Answered::Value(put_named(area, version, log, index)),
+    let judged = judge::judge(version, log)?;
+    match judged {
+        None => Ok(put_ordered(area)),
+        Some(index) => Ok(put_named(area, version, log, index)),
     }
 }

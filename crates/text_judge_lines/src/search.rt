@@ -53,9 +53,7 @@ pub fn last_conflict(version: usize, log: &[u8], later: usize) -> usize
     log_arrows::heard::rows(version, log, &mut rows);
     let row = rows[later];
     let access = log_packing::columns_at(log, later);
-    let mut index = later;
-    while 0 < index {
-        index -= 1;
+    for index in (0..later).rev() {
         let columns = log_packing::columns_at(log, index);
         let thread = columns.thread;
         let heard = index < row[thread] as usize;
@@ -63,5 +61,5 @@ pub fn last_conflict(version: usize, log: &[u8], later: usize) -> usize
             return index;
         }
     }
-    index
+    0
 }

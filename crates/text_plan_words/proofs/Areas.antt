@@ -10,7 +10,7 @@ use Rattle.plan_packed.specs.Format.{plan_length}
 use Rattle.plan_packed.specs.Check.{refusal}
 use Rattle.plan_packed.proofs.Accepted.{accepted}
 use Rattle.plan_refusals.specs.Answer as refusals
-use Rattle.plan_refusals.specs.declared.Checked.TheVariants as checked
+use Rattle.std.specs.Prelude.{Ok}
 use Rattle.text.specs.Inner.Wrote.{Wrote}
 use Rattle.answers.specs.Answer.{Answer, answer_by}
 use Rattle.plan_written.specs.Written.{written_plan}
@@ -57,7 +57,7 @@ module _ (plan area : List ℕ) (long : 5192 ≤ length area) where
   write_by_lem : (o : Option Refusal) → refusal plan ≡ o → canonical_refusal plan area ≡ o
   unfolding or_else refusals.answered
   write_by_lem (some r) e = writes.stages plan area ∙ rw e refl
-  write_by_lem none e = sym (writes.by_none plan area checked.Passed (sym e) refl (omega (arith, plan_few plan e)))
+  write_by_lem none e = sym (writes.by_none plan area (Ok tt) (sym e) refl (omega (arith, plan_few plan e)))
 
   write_same : canonical_refusal plan area ≡ refusal plan
   write_same = write_by_lem (refusal plan) refl

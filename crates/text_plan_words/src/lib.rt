@@ -5,20 +5,14 @@ ghost use Rattle.std.specs.Prelude.{◌≤◌, length};
 ghost use Rattle.text.specs.Inner.Wrote.{Wrote};
 ghost use Rattle.text_plan_words.specs.Texts.{check_text, plan_text, show_text, canonical_text, bound_line, bound_text};
 
-use answers::Answered;
-use plan_refusals::Checked;
-
 // Whether a plan passes.
 pub fn check_text(plan: &[u8], area: &mut [u8]) -> usize
     requires { 200 ≤ length area.old }
     ensures { Wrote area.old 0 (check_text plan.now) area.new result }
 {
-    let checked = plan::check(plan);
-    match checked {
-        Checked::Refused { number, place } => text_refusal_lines::put_refusal_lines(
-            area, 0, number, place,
-        ),
-        Checked::Passed => text::put_word(area, 0, b"passes\n"),
+    match plan::check(plan) {
+        Err(refusal) => text_answer_lines::put_refusal(area, refusal),
+        Ok(()) => text::put_word(area, 0, b"passes\n"),
     }
 }
 
@@ -27,12 +21,9 @@ pub fn plan_text(plan: &[u8], area: &mut [u8]) -> usize
     requires { 5192 ≤ length area.old }
     ensures { Wrote area.old 0 (plan_text plan.now) area.new result }
 {
-    let checked = plan::check(plan);
-    match checked {
-        Checked::Refused { number, place } => text_refusal_lines::put_refusal_lines(
-            area, 0, number, place,
-        ),
-        Checked::Passed => text::put_word(area, 0, plan),
+    match plan::check(plan) {
+        Err(refusal) => text_answer_lines::put_refusal(area, refusal),
+        Ok(()) => text::put_word(area, 0, plan),
     }
 }
 
@@ -68,11 +59,8 @@ pub fn bound_text(plan: &[u8], area: &mut [u8]) -> usize
     requires { 200 ≤ length area.old }
     ensures { Wrote area.old 0 (bound_text plan.now) area.new result }
 {
-    let answered = bound::bound(plan);
-    match answered {
-        Answered::Refused { number, place } => text_refusal_lines::put_refusal_lines(
-            area, 0, number, place,
-        ),
-        Answered::Value(moves) => put_bound(area, moves),
+    match bound::bound(plan) {
+        Err(refusal) => text_answer_lines::put_refusal(area, refusal),
+        Ok(moves) => put_bound(area, moves),
     }
 }

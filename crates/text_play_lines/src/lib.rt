@@ -5,8 +5,7 @@ ghost use Rattle.answers.specs.Answer.{answered};
 ghost use Rattle.text_play_lines.specs.Told.{PlayTold};
 ghost use Rattle.text_play_lines.specs.Inner.Written.{RunRoom, WroteRun};
 
-use answers::Answered;
-use plan_refusals::Checked;
+use refusals::Refusal;
 use run_outcome::Stop;
 
 // The lines of a run whose records these are.
@@ -30,32 +29,23 @@ fn put_run(
 }
 
 // Every plan and schedule gets the text of its play at the start of an area of 131,072 bytes or more, and the text's length; or a refusal of number 1 to 9.
-pub fn play_text(plan: &[u8], schedule: &[u8], area: &mut [u8]) -> Answered
+pub fn play_text(plan: &[u8], schedule: &[u8], area: &mut [u8]) -> Result<usize, Refusal>
     ensures { PlayTold plan.now schedule.now area.old (answered result) area.new }
 {
     if area.len() < 131072 {
-        return Answered::Value(0);
+        return Ok(0);
     }
     let mut log = [0u8; 12288];
     let played = play::play(plan, schedule, &mut log);
-    let checked = played.checked;
+    played.checked?;
     let outcome = played.outcome;
-    match checked {
-        Checked::Refused { number, place } => Answered::Refused {
-            number: number,
-            place: place,
-        },
-        Checked::Passed => {
-            let end = play::outcome::record_bytes(outcome.records);
-            let stop = outcome.stop;
-            Answered::Value(put_run(
-                area,
-                &log[0..end],
-                stop,
-                outcome.picks,
-                outcome.moves,
-                outcome.records,
-            ))
-        }
-    }
+    let end = play::outcome::record_bytes(outcome.records);
+    Ok(put_run(
+        area,
+        &log[0..end],
+        outcome.stop,
+        outcome.picks,
+        outcome.moves,
+        outcome.records,
+    ))
 }

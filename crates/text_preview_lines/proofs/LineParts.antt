@@ -1,6 +1,6 @@
 -- The line of a preview: the parts that it is put together from. Assumes nothing.
 use Prim.Native.Nat.{ℕ}
-use mathlib.Core.Path.{◌≡◌, refl, sym, ap, ◌∙◌}
+use mathlib.Core.Path.{◌≡◌, ap, ◌∙◌}
 use mathlib.Core.List.{List, [], ◌∷◌, ◌++◌, append_assoc}
 use Rattle.log_records.specs.Record.{Record}
 use Rattle.log_packing.specs.declared.Columns.{Columns}

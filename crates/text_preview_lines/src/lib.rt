@@ -15,8 +15,8 @@ ghost use Rattle.text_move_words.specs.Words.{record_words};
 ghost use Rattle.text_preview_lines.specs.Lines.{preview_line};
 ghost use Rattle.text_preview_lines.specs.Told.{PreviewTold};
 
-use answers::Answered;
-use run_last_pick::{Previewed, RecordBytes};
+use refusals::Refusal;
+use run_last_pick::{Preview, RecordBytes};
 use run_outcome::{NoRoom, Stop, ThreadState};
 
 // The pick would be passed over, for the state of its thread.
@@ -73,25 +73,24 @@ fn put_stopped(area: &mut [u8], stop: Stop) -> usize
 
 // Every plan, schedule and pick gets the text of its preview at the start of an area of 200 bytes or more, and the text's length; or a refusal of number 1
 // to 9.
-pub fn preview_text(plan: &[u8], schedule: &[u8], pick: usize, area: &mut [u8]) -> Answered
+pub fn preview_text(
+    plan: &[u8],
+    schedule: &[u8],
+    pick: usize,
+    area: &mut [u8],
+) -> Result<usize, Refusal>
     ensures { PreviewTold plan.now schedule.now pick area.old (answered result) area.new }
 {
     if area.len() < 200 {
-        return Answered::Value(0);
+        return Ok(0);
     }
-    let previewed = preview::preview(plan, schedule, pick);
-    match previewed {
-        Previewed::Refused { number, place } => Answered::Refused {
-            number: number,
-            place: place,
-        },
-        Previewed::Stopped(stop) => Answered::Value(put_stopped(area, stop)),
-        Previewed::Passed(state) => Answered::Value(put_passed(area, pick, state)),
-        Previewed::Moved => Answered::Value(put_moved(area, pick)),
-        Previewed::Recorded(bytes) => Answered::Value(put_recorded(area, pick, bytes, b"\n")),
-        Previewed::Race(bytes) => {
-            Answered::Value(put_recorded(area, pick, bytes, b": the run stops\n"))
-        }
-        Previewed::NoRoom(room) => Answered::Value(put_no_room(area, pick, room)),
+    let shown = preview::preview(plan, schedule, pick)?;
+    match shown {
+        Preview::Stopped(stop) => Ok(put_stopped(area, stop)),
+        Preview::Passed(state) => Ok(put_passed(area, pick, state)),
+        Preview::Moved => Ok(put_moved(area, pick)),
+        Preview::Recorded(bytes) => Ok(put_recorded(area, pick, bytes, b"\n")),
+        Preview::Race(bytes) => Ok(put_recorded(area, pick, bytes, b": the run stops\n")),
+        Preview::NoRoom(room) => Ok(put_no_room(area, pick, room)),
     }
 }

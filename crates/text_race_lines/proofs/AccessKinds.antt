@@ -10,8 +10,6 @@ use borrow.Author.Tests.{eqb-true}
 use Rattle.format.proofs.Ranges.{by_range}
 use Rattle.log_records.specs.Packed.{kind_of}
 use Rattle.log_order.specs.Accesses.{is_write}
-use Rattle.text.specs.Text.{ascii}
-use Rattle.text_race_lines.specs.Lines.{does, deed}
 
 pub write_kinds : (k : ℕ) → k < 16 → (eqb k 3 || eqb k 11) ≡ is_write (kind_of k)
 unfolding kind_of
@@ -37,18 +35,8 @@ no_write k h n = sym (write_kinds k h) ∙ go (eqb k 3 || eqb k 11) refl
     go false e = e
     go true e = absurd (n (⊎_elim (λ x. inl (eqb-true k 3 x)) (λ x. inr (eqb-true k 11 x)) (one_of (eqb k 3) (eqb k 11) e)))
 
-pub does_write : (k : ℕ) → (k ≡ 3) ⊎ (k ≡ 11) → ascii " writes" ≡ does (kind_of k)
-unfolding does
-does_write k h = rw (is_write_lem k h)
+pub either_write : (k : ℕ) (write read : List ℕ) → (k ≡ 3) ⊎ (k ≡ 11) → write ≡ cond (is_write (kind_of k)) write read
+either_write k write read h = rw (is_write_lem k h)
 
-pub does_read : (k : ℕ) → k < 16 → ((k ≡ 3) ⊎ (k ≡ 11) → ⊥) → ascii " reads" ≡ does (kind_of k)
-unfolding does
-does_read k h n = rw (no_write k h n)
-
-pub deed_write : (k : ℕ) → (k ≡ 3) ⊎ (k ≡ 11) → ascii "'s write" ≡ deed (kind_of k)
-unfolding deed
-deed_write k h = rw (is_write_lem k h)
-
-pub deed_read : (k : ℕ) → k < 16 → ((k ≡ 3) ⊎ (k ≡ 11) → ⊥) → ascii "'s read" ≡ deed (kind_of k)
-unfolding deed
-deed_read k h n = rw (no_write k h n)
+pub either_read : (k : ℕ) (write read : List ℕ) → k < 16 → ((k ≡ 3) ⊎ (k ≡ 11) → ⊥) → read ≡ cond (is_write (kind_of k)) write read
+either_read k write read h n = rw (no_write k h n)

@@ -1,10 +1,10 @@
 -- The records that a text is about are those of the log: one record at an index, one last write, one text. Assumes nothing.
-use Prim.Native.Nat.{ℕ, ◌/◌, ◌<◌, ◌≤◌}
+use Prim.Native.Nat.{ℕ, ◌/◌, ◌<◌}
 use native.Mathlib.Omega.{arith}
-use mathlib.Core.Path.{◌≡◌, refl, sym, ap, ◌∙◌, subst as along}
+use mathlib.Core.Path.{◌≡◌, sym, ap, ◌∙◌, subst as along}
 use mathlib.Core.List.{List, ◌++◌}
 use mathlib.Core.Option.{some}
-use lib.ListN.{length, get_elem?}
+use lib.ListN.{length}
 use Rattle.format.specs.Version.{Version}
 use Rattle.log_records.specs.Record.{Record}
 use Rattle.log_records.specs.Packed.{record_at, record_count, log_of}

@@ -1,35 +1,25 @@
 // Two records of a log between which nothing leads, in words, written behind the text that is there.
 #![tactic(auto)]
 
-ghost use Rattle.std.specs.Prelude.{◌+◌, ◌≤◌, ◌<◌, length};
+ghost use Rattle.std.specs.Prelude.{◌+◌, ◌≤◌, ◌<◌, cond, length};
 ghost use Rattle.log_records.specs.Packed.{kind_of};
+ghost use Rattle.log_order.specs.Accesses.{is_write};
 ghost use Rattle.text.specs.Inner.Wrote.{Wrote};
 ghost use Rattle.text_record_lines.specs.Inner.Columns.{record_of};
-ghost use Rattle.text_race_lines.specs.Lines.{does, deed, apart_line, lack_line, access_part, other_part, conflict_lines};
+ghost use Rattle.text_race_lines.specs.Lines.{apart_line, lack_line, access_part, other_part, conflict_lines};
 ghost use Rattle.text_race_lines.specs.Inner.Written.{RaceRoom, WroteUnordered, ConflictRoom};
 
 use log_packing::Columns;
 use log_records::kind;
 
-// What a thread does by a plain access.
-fn put_does(area: &mut [u8], at: usize, kind: usize) -> usize
-    requires { (at + length (does (kind_of kind)) ≤ length area.old) × (kind < 16) }
-    ensures { Wrote area.old at (does (kind_of kind)) area.new result }
+// The word for a write, where the kind of a plain access is one, and else the word for a read.
+fn put_either(area: &mut [u8], at: usize, kind: usize, write: &[u8], read: &[u8]) -> usize
+    requires { (at + length (cond (is_write (kind_of kind)) write.now read.now) ≤ length area.old) × (kind < 16) }
+    ensures { Wrote area.old at (cond (is_write (kind_of kind)) write.now read.now) area.new result }
 {
     match kind {
-        kind::WRITE | kind::LACKS_WRITE => text::put_word(area, at, b" writes"),
-        _ => text::put_word(area, at, b" reads"),
-    }
-}
-
-// A thread's plain access, as a thing.
-fn put_deed(area: &mut [u8], at: usize, kind: usize) -> usize
-    requires { (at + length (deed (kind_of kind)) ≤ length area.old) × (kind < 16) }
-    ensures { Wrote area.old at (deed (kind_of kind)) area.new result }
-{
-    match kind {
-        kind::WRITE | kind::LACKS_WRITE => text::put_word(area, at, b"'s write"),
-        _ => text::put_word(area, at, b"'s read"),
+        kind::WRITE | kind::LACKS_WRITE => text::put_word(area, at, write),
+        _ => text::put_word(area, at, read),
     }
 }
 
@@ -49,7 +39,7 @@ fn put_lack(area: &mut [u8], at: usize, index: usize, write: Columns, access: Co
     ensures { Wrote area.old at (lack_line index (record_of write) (record_of access)) area.new result }
 {
     let at = text_phrases::put_phrase(area, at, b"thread ", access.thread);
-    let at = put_does(area, at, access.kind);
+    let at = put_either(area, at, access.kind, b" writes", b" reads");
     let at = text_phrases::put_phrase(area, at, b" field ", access.field);
     let at = text_phrases::put_phrase(area, at, b" of object ", access.object);
     let at = text_phrases::put_phrase(area, at, b" without the key of thread ", write.thread);
@@ -75,7 +65,7 @@ fn put_access(area: &mut [u8], at: usize, index: usize, access: Columns) -> usiz
     ensures { Wrote area.old at (access_part index (record_of access)) area.new result }
 {
     let at = text_phrases::put_phrase(area, at, b"thread ", access.thread);
-    let at = put_deed(area, at, access.kind);
+    let at = put_either(area, at, access.kind, b"'s write", b"'s read");
     let at = text_phrases::put_phrase(area, at, b" of field ", access.field);
     let at = text_phrases::put_phrase(area, at, b" of object ", access.object);
     text_phrases::put_phrase(area, at, b", record ", index)
@@ -87,7 +77,7 @@ fn put_other(area: &mut [u8], at: usize, index: usize, access: Columns) -> usize
     ensures { Wrote area.old at (other_part index (record_of access)) area.new result }
 {
     let at = text_phrases::put_phrase(area, at, b", and thread ", access.thread);
-    let at = put_deed(area, at, access.kind);
+    let at = put_either(area, at, access.kind, b"'s write", b"'s read");
     let at = text_phrases::put_phrase(area, at, b", record ", index);
     let at = text::put_word(area, at, b", conflict");
     text::put_byte(area, at, 10)

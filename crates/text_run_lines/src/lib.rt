@@ -17,11 +17,9 @@ fn put_log(area: &mut [u8], log: &[u8]) -> usize
     ensures within { result ≤ 114688 }
 {
     let mut at = 0;
-    let mut index = 0;
-    while index < log.len() / 3 {
+    for index in 0..log.len() / 3 {
         let columns = log_packing::columns_at(log, index);
         at = text_record_lines::put_record(area, at, index, columns);
-        index += 1;
     }
     at
 }

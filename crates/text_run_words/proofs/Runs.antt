@@ -7,8 +7,10 @@ use mathlib.Core.List.{List}
 use mathlib.Core.Option.{Option, some, none}
 use lib.ListN.{length}
 use Rattle.format.specs.Refusal.{Refusal}
-use Rattle.plan_refusals.specs.declared.Checked.{Checked}
-use Rattle.plan_refusals.specs.declared.Checked.TheVariants as checked
+use Rattle.std.specs.Prelude.{Ok, Err}
+use Rattle.refusals.specs.declared.Refusal as code
+use Rattle.refusals.specs.Numbers.{refusal_of}
+use Rattle.plan_refusals.proofs.Stages.{Checked}
 use Rattle.log_records.specs.Packed.{bytes_of}
 use Rattle.log_records.proofs.RoundTrip.{length_bytes}
 use Rattle.rules.specs.Run.{log}
@@ -103,25 +105,25 @@ module _ (plan schedule area : List ℕ) (p : Played) (h : answered p ≡ played
   unfolding log_text
   by_play e = ap (λ (y : Option Refusal). text_by y (bytes_of (log (run_of plan schedule)))) (sym e ∙ long_area plan schedule area long)
 
-  pub log_refused : (k i : ℕ) → p.checked ≡ checked.Refused k i
-      → (refusal_lines (record { number = k; place = i }) ≡ log_text plan schedule) × (area_after plan schedule area ≡ area)
+  pub log_refused : (c : code.Refusal) → p.checked ≡ Err c
+      → (refusal_lines (refusal_of c) ≡ log_text plan schedule) × (area_after plan schedule area ≡ area)
   unfolding answered played played_by area_after area_by text_by
-  log_refused k i e = go (play_refusal plan schedule area) refl
+  log_refused c e = go (play_refusal plan schedule area) refl
     where
-      known : rules.Played.refused (record { number = k; place = i }) ≡ played_by plan schedule (play_refusal plan schedule area)
+      known : rules.Played.refused (refusal_of c) ≡ played_by plan schedule (play_refusal plan schedule area)
       known = ap (λ (y : Checked). answered_by y p.outcome) (sym e) ∙ h
 
       go : (o : Option Refusal) → play_refusal plan schedule area ≡ o
-          → (refusal_lines (record { number = k; place = i }) ≡ log_text plan schedule) × (area_after plan schedule area ≡ area)
+          → (refusal_lines (refusal_of c) ≡ log_text plan schedule) × (area_after plan schedule area ≡ area)
       go (some r) q =
-          let y : rules.Played.refused (record { number = k; place = i }) ≡ rules.Played.refused r = known ∙ ap (played_by plan schedule) q in
-          let w : record { number = k; place = i } ≡ r = cc in
+          let y : rules.Played.refused (refusal_of c) ≡ rules.Played.refused r = known ∙ ap (played_by plan schedule) q in
+          let w : refusal_of c ≡ r = cc in
           (ap refusal_lines w ∙ by_play q, ap (area_by plan schedule area) q)
       go none q =
-          let y : rules.Played.refused (record { number = k; place = i }) ≡ played_by plan schedule none = known ∙ ap (played_by plan schedule) q in
+          let y : rules.Played.refused (refusal_of c) ≡ played_by plan schedule none = known ∙ ap (played_by plan schedule) q in
           absurd (true≢false cc)
 
-  module _ (e : p.checked ≡ checked.Passed) where
+  module _ (e : p.checked ≡ Ok tt) where
     pub log_few : p.outcome.records ≤ 4096
     log_few = few_records plan schedule area p h e
 

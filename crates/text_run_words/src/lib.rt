@@ -9,7 +9,7 @@ ghost use Rattle.answers.specs.Answer.{answered};
 ghost use Rattle.text_answer_lines.specs.Inner.Told.{Told};
 ghost use Rattle.text_run_words.specs.Texts.{cents_lines, charge_lines, charge_text, WitnessText};
 
-use answers::Answered;
+use refusals::Refusal;
 
 fn put_cents(area: &mut [u8], plain: usize, more: usize) -> usize
     requires { 200 ≤ length area.old }
@@ -21,19 +21,19 @@ fn put_cents(area: &mut [u8], plain: usize, more: usize) -> usize
     text::put_word(area, at, b" cents with the one-millisecond option\n")
 }
 
-fn put_charges(area: &mut [u8], plain: Answered, option: Answered) -> usize
+fn put_charges(
+    area: &mut [u8],
+    plain: Result<usize, Refusal>,
+    option: Result<usize, Refusal>,
+) -> usize
     requires { 200 ≤ length area.old }
     ensures { Wrote area.old 0 (charge_lines (answered plain) (answered option)) area.new result }
 {
     match plain {
-        Answered::Refused { number, place } => text_refusal_lines::put_refusal_lines(
-            area, 0, number, place,
-        ),
-        Answered::Value(cents) => match option {
-            Answered::Refused { number, place } => {
-                text_refusal_lines::put_refusal_lines(area, 0, number, place)
-            }
-            Answered::Value(more) => put_cents(area, cents, more),
+        Err(refusal) => text_answer_lines::put_refusal(area, refusal),
+        Ok(cents) => match option {
+            Err(refusal) => text_answer_lines::put_refusal(area, refusal),
+            Ok(more) => put_cents(area, cents, more),
         },
     }
 }
@@ -56,13 +56,7 @@ pub fn witness_text(plan: &[u8], schedule: &[u8], area: &mut [u8]) -> usize
     let mut picks = [0u8; 4096];
     let answered = witness::witness(plan, schedule, &mut picks);
     match answered {
-        Answered::Refused { number, place } => text_refusal_lines::put_refusal_lines(
-            area, 0, number, place,
-        ),
-        Answered::Value(length) => text_inputs::schedules::put_digit_line(
-            area,
-            0,
-            &picks[0..length],
-        ),
+        Err(refusal) => text_answer_lines::put_refusal(area, refusal),
+        Ok(length) => text_inputs::schedules::put_digit_line(area, 0, &picks[0..length]),
     }
 }

@@ -4,8 +4,6 @@ ghost use Rattle.text.specs.Inner.Wrote.{Wrote};
 ghost use Rattle.text_answer_lines.specs.Inner.Told.{Told};
 ghost use Rattle.text_run_words.specs.Runs.{PlayText, threads_text, preview_text, log_text};
 
-use plan_refusals::Checked;
-
 // A play.
 pub fn play_text(plan: &[u8], schedule: &[u8], area: &mut [u8]) -> usize
     requires { 131072 ≤ length area.old }
@@ -42,9 +40,7 @@ pub fn log_text(plan: &[u8], schedule: &[u8], area: &mut [u8]) -> usize
     let checked = played.checked;
     let outcome = played.outcome;
     match checked {
-        Checked::Refused { number, place } => {
-            text_refusal_lines::put_refusal_lines(area, 0, number, place)
-        }
-        Checked::Passed => play::outcome::record_bytes(outcome.records),
+        Err(refusal) => text_answer_lines::put_refusal(area, refusal),
+        Ok(()) => play::outcome::record_bytes(outcome.records),
     }
 }

@@ -26,12 +26,10 @@ pub fn after_record(end: &mut [u8], columns: Columns)
     ensures { (L : List Record) → end.old ≡ end_of L → end.new ≡ end_of (L ++ (record_of columns ∷ [])) }
 {
     let place = 2 * columns.object + 1;
-    if columns.kind == kind::ACQUIRE {
-        end[place] = 49;
-        return;
-    }
-    if columns.kind == kind::RELEASE {
-        end[place] = 48;
+    match columns.kind {
+        kind::ACQUIRE => end[place] = 49,
+        kind::RELEASE => end[place] = 48,
+        _ => {}
     }
 }
 

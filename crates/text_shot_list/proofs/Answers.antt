@@ -3,8 +3,10 @@ use Prim.Native.Nat.{ℕ, ◌*◌, ◌-◌}
 use mathlib.Core.Path.{◌≡◌, sym, ap, ◌∙◌}
 use mathlib.Core.List.{List, ◌++◌}
 use lib.ListN.{take}
-use Rattle.plan_refusals.specs.declared.Checked.{Checked}
-use Rattle.plan_refusals.specs.declared.Checked.TheVariants as checked
+use Rattle.std.specs.Prelude.{Ok, Err}
+use Rattle.refusals.specs.declared.Refusal as code
+use Rattle.refusals.specs.Numbers.{refusal_of}
+use Rattle.plan_refusals.proofs.Stages.{Checked}
 use Rattle.plan_packed.specs.Trees.{program_of}
 use Rattle.plan_packed.proofs.Decoded.{well_formed}
 use Rattle.log_records.specs.Record.{Record}
@@ -27,12 +29,11 @@ module _ (plan schedule : List ℕ) (p : Played) (h : answered p ≡ played plan
   unfolding answered play_text
   text_is c e = ap (λ (x : Checked). answer_text (log (run_of plan schedule)) (answered_by x p.outcome)) (sym e) ∙ ap (answer_text (log (run_of plan schedule))) h
 
-  pub refused_text : (number place : ℕ) → p.checked ≡ checked.Refused number place
-      → refusal_line (record { number = number; place = place }) ≡ play_text plan schedule
+  pub refused_text : (r : code.Refusal) → p.checked ≡ Err r → refusal_line (refusal_of r) ≡ play_text plan schedule
   unfolding answer_text
-  refused_text number place e = text_is (checked.Refused number place) e
+  refused_text r e = text_is (Err r) e
 
-  module _ (e : p.checked ≡ checked.Passed) (after : List ℕ) (left : after ≡ area_after plan schedule lent_area) where
+  module _ {u : Unit {0}} (e : p.checked ≡ Ok u) (after : List ℕ) (left : after ≡ area_after plan schedule lent_area) where
     log_is : (n : ℕ) → n ≡ 3 * p.outcome.records → log_of (take (n - 0) after) ≡ log (run_of plan schedule)
     unfolding run_of
     log_is n q =
@@ -47,4 +48,4 @@ module _ (plan schedule : List ℕ) (p : Played) (h : answered p ≡ played plan
     ran_text n q =
         ap (λ (L : List Record). record_lines 0 L ++ outcome_line (stop_of p.outcome.stop) p.outcome.picks p.outcome.moves p.outcome.records)
         (log_is n q)
-        ∙ text_is checked.Passed e
+        ∙ text_is (Ok tt) e

@@ -2,10 +2,20 @@
 #![tactic(auto)]
 
 ghost use Rattle.std.specs.Prelude.{ℕ, ◌≤◌, ◌≡◌, List, length, take};
+ghost use Rattle.refusals.specs.Numbers.{refusal_of};
+ghost use Rattle.text_refusal_lines.specs.Lines.{refusal_line};
 ghost use Rattle.text.specs.Inner.Wrote.{Wrote};
 ghost use Rattle.text_shot_list.specs.Printed.{play_text, printed, TextWritten};
 
-use plan_refusals::Checked;
+use refusals::{Reason, Refusal};
+
+// The line of a refusal.
+fn put_refusal(area: &mut [u8], refusal: Refusal) -> usize
+    requires { 50 ≤ length area.old }
+    ensures { Wrote area.old 0 (refusal_line (refusal_of refusal)) area.new result }
+{
+    text_refusal_lines::put_refusal(area, 0, refusal.number(), refusal.place)
+}
 
 // A schedule is played on a plan.
 fn print_play(plan: &[u8], schedule: &[u8], area: &mut [u8]) -> usize
@@ -14,19 +24,15 @@ fn print_play(plan: &[u8], schedule: &[u8], area: &mut [u8]) -> usize
 {
     let mut log = [0u8; 12288];
     let played = play::play(plan, schedule, &mut log);
-    let checked = played.checked;
     let outcome = played.outcome;
-    match checked {
-        Checked::Refused { number, place } => text_refusal_lines::put_refusal(
-            area, 0, number, place,
-        ),
-        Checked::Passed => {
+    match played.checked {
+        Err(refusal) => put_refusal(area, refusal),
+        Ok(()) => {
             let end = play::outcome::record_bytes(outcome.records);
-            let stop = outcome.stop;
             text_run_lines::put_run(
                 area,
                 &log[0..end],
-                stop,
+                outcome.stop,
                 outcome.picks,
                 outcome.moves,
                 outcome.records,
@@ -44,7 +50,7 @@ pub fn shot_list(input: &[u8], area: &mut [u8]) -> usize
         return 0;
     }
     if text_input_parts::cut_short(input) {
-        return text_refusal_lines::put_refusal(area, 0, 1, 0);
+        return put_refusal(area, Reason::PlanLength.at(0));
     }
     let plan = text_input_parts::plan_of(input);
     let schedule = text_input_parts::schedule_of(input);

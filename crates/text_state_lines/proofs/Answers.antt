@@ -8,8 +8,10 @@ use mathlib.Core.Option.{Option, some, none}
 use lib.ListN.{length, length-map, drop}
 use Rattle.format.specs.Area.{overwrite}
 use Rattle.format.specs.Refusal.{Refusal}
-use Rattle.plan_refusals.specs.declared.Checked.{Checked}
-use Rattle.plan_refusals.specs.declared.Checked.TheVariants as checked
+use Rattle.std.specs.Prelude.{Ok, Err}
+use Rattle.refusals.specs.declared.Refusal as code
+use Rattle.refusals.specs.Numbers.{refusal_of}
+use Rattle.plan_refusals.proofs.Stages.{Checked}
 use Rattle.plan_packed.specs.Syntax.{Program}
 use Rattle.plan_packed.specs.Trees.{program_of}
 use Rattle.rules.specs.State.{State}
@@ -36,23 +38,23 @@ statuses_count g s p (suc n) = ap suc (statuses_count g s (suc p) n)
 
 module _ (plan schedule lent area : List ℕ) (p : Played) (h : answered p ≡ played plan schedule lent) (long : 12288 ≤ length lent)
     (big : 2048 ≤ length area) where
-  pub refused_told : (k i : ℕ) → p.checked ≡ checked.Refused k i → StatesTold plan schedule area (Answer.refused (record { number = k; place = i })) area
+  pub refused_told : (c : code.Refusal) → p.checked ≡ Err c → StatesTold plan schedule area (Answer.refused (refusal_of c)) area
   unfolding answered played played_by
-  refused_told k i e = go (schedule_refusal plan schedule) refl
+  refused_told c e = go (schedule_refusal plan schedule) refl
     where
-      known : play.Played.refused (record { number = k; place = i }) ≡ played_by plan schedule (schedule_refusal plan schedule)
+      known : play.Played.refused (refusal_of c) ≡ played_by plan schedule (schedule_refusal plan schedule)
       known = ap (λ (y : Checked). answered_by y p.outcome) (sym e) ∙ h ∙ ap (played_by plan schedule) (long_area plan schedule lent long)
 
-      go : (o : Option Refusal) → schedule_refusal plan schedule ≡ o → StatesTold plan schedule area (Answer.refused (record { number = k; place = i })) area
+      go : (o : Option Refusal) → schedule_refusal plan schedule ≡ o → StatesTold plan schedule area (Answer.refused (refusal_of c)) area
       go (some r) q =
-          let y : play.Played.refused (record { number = k; place = i }) ≡ play.Played.refused r = known ∙ ap (played_by plan schedule) q in
-          let w : r ≡ record { number = k; place = i } = cc in
+          let y : play.Played.refused (refusal_of c) ≡ play.Played.refused r = known ∙ ap (played_by plan schedule) q in
+          let w : r ≡ refusal_of c = cc in
           along (λ (x : Refusal). StatesTold plan schedule area (Answer.refused x) area) w (refuses big q)
       go none q =
-          let y : play.Played.refused (record { number = k; place = i }) ≡ played_by plan schedule none = known ∙ ap (played_by plan schedule) q in
+          let y : play.Played.refused (refusal_of c) ≡ played_by plan schedule none = known ∙ ap (played_by plan schedule) q in
           absurd (true≢false cc)
 
-  module _ (e : p.checked ≡ checked.Passed) where
+  module _ (e : p.checked ≡ Ok tt) where
     none_refused : schedule_refusal plan schedule ≡ none
     none_refused = sym (long_area plan schedule lent long) ∙ not_refused plan schedule lent (outcome_of p.outcome) (ran_is plan schedule lent p h e)
 

@@ -9,8 +9,7 @@ ghost use Rattle.text_state_lines.specs.Lines.{present_line, state_line};
 ghost use Rattle.text_state_lines.specs.Told.{StatesTold};
 ghost use Rattle.text_state_lines.specs.Inner.Threads.{not_there, thread_lines};
 
-use answers::Answered;
-use plan_refusals::Checked;
+use refusals::Refusal;
 use run_outcome::{Thread, ThreadState};
 
 // The line of a thread that is there, with its total: at most 163 bytes.
@@ -29,17 +28,7 @@ fn put_present(area: &mut [u8], at: usize, index: usize, state: ThreadState, lea
 fn absent(state: ThreadState) -> bool
     ensures { result ≡ not_there state }
 {
-    match state {
-        ThreadState::Absent => true,
-        ThreadState::Finished { value: _ } => false,
-        ThreadState::Ready => false,
-        ThreadState::Waiting(_) => false,
-        ThreadState::Stuck(_) => false,
-        ThreadState::Lacking {
-            object: _,
-            field: _,
-        } => false,
-    }
+    matches!(state, ThreadState::Absent)
 }
 
 // The line of a thread, if it is there.
@@ -61,35 +50,24 @@ fn put_threads(area: &mut [u8], threads: [Thread; 8]) -> usize
     ensures { Wrote area.old 0 (thread_lines 0 threads) area.new result }
 {
     let mut at = 0;
-    let mut index = 0;
-    while index < 8 {
+    for index in 0..8 {
         let thread = threads[index];
         at = put_thread(area, at, index, thread);
-        index += 1;
     }
     at
 }
 
 // Every plan and schedule gets the states of the threads after its play at the start of an area of 2,048 bytes or more, and the text's length; or a refusal
 // of number 1 to 9.
-pub fn states_text(plan: &[u8], schedule: &[u8], area: &mut [u8]) -> Answered
+pub fn states_text(plan: &[u8], schedule: &[u8], area: &mut [u8]) -> Result<usize, Refusal>
     ensures { StatesTold plan.now schedule.now area.old (answered result) area.new }
 {
     if area.len() < 2048 {
-        return Answered::Value(0);
+        return Ok(0);
     }
     let mut log = [0u8; 12288];
     let played = play::play(plan, schedule, &mut log);
-    let checked = played.checked;
+    played.checked?;
     let outcome = played.outcome;
-    match checked {
-        Checked::Refused { number, place } => Answered::Refused {
-            number: number,
-            place: place,
-        },
-        Checked::Passed => {
-            let threads = outcome.threads;
-            Answered::Value(put_threads(area, threads))
-        }
-    }
+    Ok(put_threads(area, outcome.threads))
 }

@@ -10,7 +10,7 @@ ghost use Rattle.answers.specs.Answer.{answered};
 ghost use Rattle.text_sample_lines.specs.DataFile.{sample_lines};
 ghost use Rattle.waveform.specs.Comtrade.{file_of, comtrade_answer, comtrade_area};
 
-use answers::Answered;
+use refusals::{Reason, Refusal};
 
 // A line for each record of a log.
 fn put_samples(area: &mut [u8], log: &[u8]) -> usize
@@ -19,41 +19,30 @@ fn put_samples(area: &mut [u8], log: &[u8]) -> usize
 {
     let mut at = 0;
     let mut end = text_sample_lines::no_values();
-    let mut index = 0;
-    while index < log.len() / 3 {
+    for index in 0..log.len() / 3 {
         let columns = log_packing::columns_at(log, index);
         at = text_sample_lines::put_next_sample(area, at, index + 1, &mut end, columns);
-        index += 1;
     }
     at
 }
 
 // The length of the file, which then begins the area; its other bytes keep their values. Where the log is refused, or the area is too short, it stays as
 // it was.
-pub fn comtrade(log: &[u8], area: &mut [u8]) -> Answered
+pub fn comtrade(log: &[u8], area: &mut [u8]) -> Result<usize, Refusal>
     ensures answer { answered result ≡ comtrade_answer log.now area.old }
     ensures area { area.new ≡ comtrade_area log.now area.old }
 {
     if log_refusals::wrong_length(log) {
-        return Answered::Refused {
-            number: 11,
-            place: 0,
-        };
+        return Err(Reason::LogLength.at(0));
     }
     let count = log.len() / 3;
     let wrong = log_refusals::lowest_wrong(log);
     if wrong < count {
-        return Answered::Refused {
-            number: 12,
-            place: wrong,
-        };
+        return Err(Reason::Record.at(wrong));
     }
     if area.len() < lengths::file_length(count) {
-        return Answered::Refused {
-            number: 24,
-            place: 0,
-        };
+        return Err(Reason::FileArea.at(0));
     }
     let at = put_samples(area, log);
-    Answered::Value(text::put_byte(area, at, 0x1A))
+    Ok(text::put_byte(area, at, 0x1A))
 }

@@ -19,8 +19,8 @@ use Rattle.rules.specs.Run.{Stop}
 use Rattle.rules.specs.Play as play
 use Rattle.rules.specs.Play.{too_many_picks, wrong_pick, short_area, schedule_refusal, play_refusal, played, played_by, run_of}
 use Rattle.rules.proofs.RunAppend.{all_dealt_with}
-use Rattle.plan_refusals.specs.declared.Checked.{Checked}
-use Rattle.plan_refusals.specs.declared.Checked.TheVariants as checked
+use Rattle.std.specs.Prelude.{Ok, Err}
+use Rattle.plan_refusals.proofs.Stages.{Checked}
 use Rattle.run_outcome.specs.declared.Stop as code-stop
 use Rattle.run_outcome.specs.declared.Stop.TheVariants as stop
 use Rattle.run_outcome.specs.declared.Outcome.{Outcome}
@@ -54,9 +54,9 @@ race_is stop.Race e = refl
 race_is (stop.NoRoom k) e = absurd (true≢false cc)
 
 -- an answer that has run was not refused
-ran_passed : (c : Checked) (o : Outcome) (x : run.Outcome) → answered_by c o ≡ play.Played.ran x → c ≡ checked.Passed
-ran_passed checked.Passed o x e = refl
-ran_passed (checked.Refused k i) o x e = absurd (true≢false cc)
+ran_passed : (c : Checked) (o : Outcome) (x : run.Outcome) → answered_by c o ≡ play.Played.ran x → c ≡ Ok tt
+ran_passed (Ok u) o x e = refl
+ran_passed (Err r) o x e = absurd (true≢false cc)
 
 -- ---- a play that nothing refuses
 
@@ -79,7 +79,7 @@ module _ (plan qs log : List ℕ) (passes : refusal plan ≡ none) (few : length
       (schedule_stages plan qs ∙ ap (λ (x : Option Refusal). or_else x (first_refusal (pick_checks qs))) passes ∙ picks_pass) ∙ area_passes
 
   module _ (p : Played) (h : answered p ≡ played plan qs log) where
-    pub runs : p.checked ≡ checked.Passed
+    pub runs : p.checked ≡ Ok tt
     unfolding answered played played_by
     runs = ran_passed p.checked p.outcome (run.outcome_of (program_of plan) (run_of plan qs)) (h ∙ ap (played_by plan qs) none_refuses)
 
@@ -96,7 +96,7 @@ below l h i b = let z = h i (get_or l i 0) (there l i b) in omega arith
 module _ (plan schedule qs log : List ℕ) (passes : refusal plan ≡ none) (few : length schedule ≤ 4096) (w : Written (program_of plan) schedule qs)
     (s : SideBySide (program_of plan) schedule qs w)
     (wide : 3 * length qs ≤ length log) (p : Played) (h : answered p ≡ played plan qs log) where
-  ran : p.checked ≡ checked.Passed
+  ran : p.checked ≡ Ok tt
   ran = runs plan qs log passes (let b = s.no_longer in omega arith) (below qs s.below_8) wide p h
 
   its_stop : (run_of plan qs).stop ≡ Stop.end
@@ -127,7 +127,7 @@ written_plays plan schedule area (wrote {qs} e w s le) log wide p h =
 pub conflict_plays : (plan schedule log : List ℕ) → refusal plan ≡ none → (run_of plan schedule).stop ≡ Stop.end → (p q : ℕ)
     → Conflict (program_of plan) (run_of plan schedule).final p q
     → HasRoom (program_of plan) (run_of plan schedule).final p → (r : Played) → answered r ≡ played plan (schedule ++ (p ∷ q ∷ [])) log
-    → r.checked ≡ checked.Passed
+    → r.checked ≡ Ok tt
     → r.outcome.stop ≡ stop.Race
 conflict_plays plan schedule log passes e p q c room r h k =
     race_is r.outcome.stop (stop_is plan (schedule ++ (p ∷ q ∷ [])) log r h k ∙ plan_conflict_races plan passes schedule e p q c room)

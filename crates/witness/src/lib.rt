@@ -6,13 +6,17 @@ ghost use Rattle.answers.specs.Answer.{answered};
 ghost use Rattle.witness.specs.Witness.{Witnesses};
 ghost use Rattle.witness.specs.Inner.Passing.{Passing};
 
-use answers::Answered;
-use plan_refusals::Checked;
+use refusals::{Reason, Refusal};
 use run_outcome::Stop;
 
 // Refusals 16 and 17 where nothing before them refuses, else what is written and its length, by one run with a record for every move, on arrays that
 // nobody else sees.
-fn from_run(plan: &[u8], words: &[usize; 1024], schedule: &[u8], area: &mut [u8]) -> Answered
+fn from_run(
+    plan: &[u8],
+    words: &[usize; 1024],
+    schedule: &[u8],
+    area: &mut [u8],
+) -> Result<usize, Refusal>
     requires { Passing plan.now words.now schedule.now }
     ensures { Witnesses plan.now schedule.now area.old (answered result) area.new }
 {
@@ -21,10 +25,7 @@ fn from_run(plan: &[u8], words: &[usize; 1024], schedule: &[u8], area: &mut [u8]
     let outcome = ran.outcome;
     let stop = outcome.stop;
     let Stop::Race = stop else {
-        return Answered::Refused {
-            number: 16,
-            place: 0,
-        };
+        return Err(Reason::NoRace.at(0));
     };
     let end = play::outcome::record_bytes(outcome.records);
     log_schedule_writer::write(&log[0..end], area)
@@ -33,19 +34,13 @@ fn from_run(plan: &[u8], words: &[usize; 1024], schedule: &[u8], area: &mut [u8]
 // Every plan, schedule and area gets E10's answer: a refusal of number 1 to 9, 15, 16 or 17 with its place, and no byte of the area changed; or the length of
 // a schedule, with which the area then begins, its other bytes as they were. Played, every pick of it moves, and at its end the two threads' next
 // moves are the write and the failing access.
-pub fn witness(plan: &[u8], schedule: &[u8], area: &mut [u8]) -> Answered
+pub fn witness(plan: &[u8], schedule: &[u8], area: &mut [u8]) -> Result<usize, Refusal>
     ensures { Witnesses plan.now schedule.now area.old (answered result) area.new }
 {
     let mut words = [0usize; 1024];
-    let checked = run_refusals::schedule_refusal(plan, schedule, &mut words);
-    if let Checked::Refused { number, place } = checked {
-        return Answered::Refused { number, place };
-    }
+    run_refusals::schedule_refusal(plan, schedule, &mut words)?;
     if plan_left_out::left_out(plan, &words) {
-        return Answered::Refused {
-            number: 15,
-            place: 0,
-        };
+        return Err(Reason::LeftOut.at(0));
     }
     from_run(plan, &words, schedule, area)
 }

@@ -1,15 +1,11 @@
--- `abi_convention::of_answer` meets its contract: the number of each answer. Assumes nothing.
+-- `abi_convention::of_answer` meets its contract: the number of each answer.
 use Rattle.abi_convention.specs.Convention.{answer_number}
-use borrow.Author.Rules.{rules}
 use Rattle.abi_convention.proofs.of_answer.Goals as goal
 
-pub refusal-requires : goal.refusal-requires
-refusal-requires c = rw c.in-Refused.is at c.requires
-
-pub returns-in-Value : goal.returns-in-Value
+pub returns-in-Ok : goal.returns-in-Ok
 unfolding answer_number
-returns-in-Value c = simp c.in-Value.is
+returns-in-Ok c = simp c.in-Ok.is
 
-pub returns-in-Refused : goal.returns-in-Refused
+pub returns-in-Err : goal.returns-in-Err
 unfolding answer_number
-returns-in-Refused c = simp (c.refusal.ensures, c.in-Refused.is)
+returns-in-Err c = simp (c.refusal.ensures, c.number.ensures, c.in-Err.is)

@@ -1,20 +1,16 @@
 -- `abi_numbers::of_next` meets its contract: the number of each answer. Assumes nothing.
-use Rattle.abi_numbers.specs.Numbers.{next_number}
-use Rattle.abi_convention.proofs.Wider.{wider}
 use borrow.Author.Rules.{rules}
+use Rattle.abi_numbers.specs.Numbers.{next_number}
 use Rattle.abi_numbers.proofs.of_next.Goals as goal
 
-pub refusal-requires : goal.refusal-requires
-refusal-requires c = wider (rw c.in-Refused.is at c.requires)
-
-pub returns-in-Refused : goal.returns-in-Refused
+pub returns-in-Ok-Some : goal.returns-in-Ok-Some
 unfolding next_number
-returns-in-Refused c = simp (c.refusal.ensures, c.in-Refused.is)
+returns-in-Ok-Some c = search rules
 
-pub returns-in-Written : goal.returns-in-Written
+pub returns-in-Ok-None : goal.returns-in-Ok-None
 unfolding next_number
-returns-in-Written c = simp c.in-Written.is
+returns-in-Ok-None c = search rules
 
-pub returns-in-Over : goal.returns-in-Over
+pub returns-in-Err : goal.returns-in-Err
 unfolding next_number
-returns-in-Over c = simp c.in-Over.is
+returns-in-Err c = simp (c.refusal.ensures, c.number.ensures, c.in-Err.is)

@@ -1,10 +1,9 @@
 use Rattle.abi_thread_bytes.specs.declared.ThreadBytes.{ThreadBytes}
 use Rattle.play.specs.Answer.{outcome_of}
-use Prim.Native.Nat.{◌+◌, ◌-◌, ◌≤◌, ◌<◌}
+use Prim.Native.Nat.{◌+◌, ◌-◌, ◌<◌}
 use native.Mathlib.Omega.{arith}
 use mathlib.Core.Path.{◌≡◌, refl, sym, ap, ◌∙◌}
 use lib.ListN.{get_or}
-use borrow.Author.Rules.{rules}
 use Rattle.format.proofs.Turns.{turns, one_turn, no_turn}
 use Rattle.abi_outcome.proofs.Threads.{absent, put_one, put_thread, small_thread, whole}
 use Rattle.abi_outcome.proofs.write.Goals as goal

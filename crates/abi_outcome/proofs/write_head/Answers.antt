@@ -1,6 +1,5 @@
 -- `abi_outcome::write_head` meets its contract: what it stores is what its callees ensure. Assumes nothing.
 use Rattle.abi_outcome.specs.Inner.Parts.{head_bytes}
-use borrow.Author.Rules.{rules}
 use Rattle.abi_outcome.proofs.write_head.Goals as goal
 
 pub returns : goal.returns

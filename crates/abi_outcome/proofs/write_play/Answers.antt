@@ -1,7 +1,6 @@
 -- `write_play` meets its contract: the number and the bytes of each answer. Assumes nothing.
-use mathlib.Core.Path.{sym, ap, ◌∙◌, subst as along}
-use borrow.Author.Rules.{rules}
-use Rattle.plan_refusals.specs.declared.Checked.{Checked}
+use mathlib.Core.Path.{refl, subst as along}
+use Rattle.plan_refusals.proofs.Stages.{Checked}
 use Rattle.play.specs.Answer.{answered_by, answered}
 use Rattle.abi_convention.proofs.Wider.{wider}
 use Rattle.abi_outcome.specs.Inner.Small.{SmallPlayed}
@@ -12,22 +11,18 @@ pub refusal-requires : goal.refusal-requires
 unfolding answered
 refusal-requires c =
     let p = c.args.played in
-    wider (along (λ (y : Checked). SmallPlayed (answered_by y p.outcome)) c.in-Refused.is c.requires)
+    rw c.number.ensures (wider (along (λ (y : Checked). SmallPlayed (answered_by y p.outcome)) c.in-Err.is c.requires))
 
 pub write-requires : goal.write-requires
 unfolding answered
 write-requires c =
     let p = c.args.played in
-    along (λ (y : Checked). SmallPlayed (answered_by y p.outcome)) c.in-Passed.is c.requires
+    along (λ (y : Checked). SmallPlayed (answered_by y p.outcome)) c.in-Ok.is c.requires
 
-pub returns-in-Refused : goal.returns-in-Refused
+pub returns-in-Ok : goal.returns-in-Ok
 unfolding answered play_number out_after
-returns-in-Refused c =
-    let a = c.args in
-    let e = sym c.in-Refused.is in record { number = c.refusal.ensures ∙ ap (λ (y : Checked). play_number (answered_by y a.played.outcome)) e; bytes = ap (λ (y : Checked). out_after a.out.now (answered_by y a.played.outcome)) e }
+returns-in-Ok c = rw c.in-Ok.is (record { number = refl; bytes = c.write.ensures })
 
-pub returns-in-Passed : goal.returns-in-Passed
+pub returns-in-Err : goal.returns-in-Err
 unfolding answered play_number out_after
-returns-in-Passed c =
-    let a = c.args in
-    let e = sym c.in-Passed.is in record { number = ap (λ (y : Checked). play_number (answered_by y a.played.outcome)) e; bytes = c.write.ensures ∙ ap (λ (y : Checked). out_after a.out.now (answered_by y a.played.outcome)) e }
+returns-in-Err c = rw c.in-Err.is (record { number = simp (c.refusal.ensures, c.number.ensures); bytes = refl })

@@ -2,7 +2,6 @@
 use mathlib.Core.Path.{ap}
 use Rattle.abi_thread_bytes.specs.Bytes.{three}
 use Prim.Native.Nat.{ℕ}
-use borrow.Author.Rules.{rules}
 use Rattle.abi_preview.proofs.stop_bytes.Goals as goal
 
 pub returns : goal.returns

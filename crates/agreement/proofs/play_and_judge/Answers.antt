@@ -12,15 +12,14 @@ pub record_bytes-bytes-requires : goal.record_bytes-bytes-requires
 record_bytes-bytes-requires c =
     let a = c.args in
     let p = c.play-played in
-    few_records a.plan.now a.schedule.now a.log.now p.result p.ensures.answer c.in-Passed.is
+    few_records a.plan.now a.schedule.now a.log.now p.result p.ensures.answer c.in-Ok.is
 
 -- the plan has its header
 pub version-version-requires : goal.version-version-requires
 version-version-requires c =
     let a = c.args in
     let p = c.play-played in
-    let w = (inside a.plan.now
-    (passes a.plan.now a.schedule.now a.log.now p.result p.ensures.answer c.in-Passed.is).plan_passes).long in
+    let w = (inside a.plan.now (passes a.plan.now a.schedule.now a.log.now p.result p.ensures.answer c.in-Ok.is).plan_passes).long in
     omega arith
 
 -- and the log area has room for them
@@ -28,23 +27,20 @@ pub judge_first-judgement-requires : goal.judge_first-judgement-requires
 judge_first-judgement-requires c =
     let a = c.args in
     let p = c.play-played in
-    let room = within a.plan.now a.schedule.now a.log.now p.result p.ensures.answer c.in-Passed.is p.new.log
-    p.ensures.area in
+    let room = within a.plan.now a.schedule.now a.log.now p.result p.ensures.answer c.in-Ok.is p.new.log p.ensures.area in
     let b = c.record_bytes-bytes in
     room b.result (omega (arith, b.ensures))
 
 -- a refused play
-pub returns-in-Refused : goal.returns-in-Refused
-returns-in-Refused c =
-    let p = c.play-played in
-    let k = c.in-Refused in record { answer = p.ensures.answer; area = p.ensures.area; agreed = refused_agreed _ _ p.result k.number k.place k.is; refused = p.ensures.refused }
+pub returns-in-Err-clause-agreed : goal.returns-in-Err-clause-agreed
+returns-in-Err-clause-agreed c = refused_agreed _ _ c.play-played.result c.in-Err.refusal c.in-Err.is
 
 -- a play that is not refused
-pub returns-in-Passed : goal.returns-in-Passed
-returns-in-Passed c =
+pub returns-in-Ok-clause-agreed : goal.returns-in-Ok-clause-agreed
+returns-in-Ok-clause-agreed c =
     let a = c.args in
     let p = c.play-played in
     let b = c.record_bytes-bytes in
     let v = c.version-version in
-    let agreed = agreed_on a.plan.now a.schedule.now a.log.now p.result p.ensures.answer c.in-Passed.is p.new.log
-    p.ensures.area in record { answer = p.ensures.answer; area = p.ensures.area; agreed = agreed c.judge_first-judgement.result b.result b.ensures v.result v.ensures c.judge_first-judgement.ensures; refused = p.ensures.refused }
+    agreed_on a.plan.now a.schedule.now a.log.now p.result p.ensures.answer c.in-Ok.is p.new.log p.ensures.area
+    c.judge_first-judgement.result b.result b.ensures v.result v.ensures c.judge_first-judgement.ensures

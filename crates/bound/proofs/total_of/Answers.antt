@@ -3,7 +3,6 @@ use mathlib.Core.Path.{◌≡◌, refl, sym, ap, ◌∙◌}
 use mathlib.Core.Bool.{Bool, true, false, not}
 use Prim.Native.Nat.{ℕ, ◌<◌}
 use native.Mathlib.Omega.{arith}
-use borrow.Author.Rules.{rules}
 use borrow.Author.Tests.{not-true, not-false}
 use Rattle.run_keys.specs.Keys.{holds}
 use Rattle.plan_packed.specs.Trees.{program_of}
@@ -20,8 +19,8 @@ lowest_left-requires c = let m = few_procedures c.requires.loads in omega arith
 pub returns-then-lowest_left-procedures : goal.returns-then-lowest_left-procedures
 returns-then-lowest_left-procedures c =
     let k = c.calls-calls.ensures in
-    answer_21 c.requires.loads (left_cyclic c.requires.loads k c.settle-done.result c.settle-done.ensures.stuck c.lowest_left.result c.if-lowest_left-procedures.true
-    (not-true _ (c.lowest_left.ensures.here c.if-lowest_left-procedures.true)))
+    rw c.at.ensures (answer_21 c.requires.loads (left_cyclic c.requires.loads k c.settle-done.result c.settle-done.ensures.stuck c.lowest_left.result c.if-lowest_left-procedures.true
+    (not-true _ (c.lowest_left.ensures.here c.if-lowest_left-procedures.true))))
 
 -- every procedure is known
 all_known : (c : Else-lowest_left-procedures) → (p : ℕ) → p < c.args.procedures
@@ -36,8 +35,8 @@ occurs-requires c =
 
 pub returns-then-occurs : goal.returns-then-occurs
 returns-then-occurs c =
-    answer_22 c.requires.loads (all_acyclic c.requires.loads c.settle-done.ensures.settled (all_known (goal.at.returns-then-occurs c).Else-lowest_left-procedures))
-    (sym (while_in_lem c.requires.loads c.args.count c.requires.count_value) ∙ sym c.occurs.ensures ∙ c.if-occurs.true)
+    rw c.at-then-occurs.ensures (answer_22 c.requires.loads (all_acyclic c.requires.loads c.settle-done.ensures.settled (all_known (goal.at.returns-then-occurs c).Else-lowest_left-procedures))
+    (sym (while_in_lem c.requires.loads c.args.count c.requires.count_value) ∙ sym c.occurs.ensures ∙ c.if-occurs.true))
 
 pub overflow_add-total : goal.overflow_add-total
 overflow_add-total c =
@@ -46,9 +45,9 @@ overflow_add-total c =
 pub returns-then-total-gt65535 : goal.returns-then-total-gt65535
 returns-then-total-gt65535 c =
     let S = c.settle-done.ensures.settled in
-    answer_23 c.requires.loads (all_acyclic c.requires.loads S (all_known (goal.at.returns-then-total-gt65535 c).Else-lowest_left-procedures)) (sym (while_in_lem c.requires.loads c.args.count c.requires.count_value) ∙ sym c.occurs.ensures
+    rw c.at-then-total-gt65535.ensures (answer_23 c.requires.loads (all_acyclic c.requires.loads S (all_known (goal.at.returns-then-total-gt65535 c).Else-lowest_left-procedures)) (sym (while_in_lem c.requires.loads c.args.count c.requires.count_value) ∙ sym c.occurs.ensures
     ∙ c.if-occurs.false)
-    _ (total_in c.requires.loads S (all_known (goal.at.returns-then-total-gt65535 c).Else-lowest_left-procedures) _ refl) c.if-total-gt65535.true
+    _ (total_in c.requires.loads S (all_known (goal.at.returns-then-total-gt65535 c).Else-lowest_left-procedures) _ refl) c.if-total-gt65535.true)
 
 pub returns : goal.returns
 returns c =

@@ -1,6 +1,6 @@
 -- Procedures whose calls and costs are known, for inner contracts: no reader of the entry's promise needs them. A set of procedures is a number, as a set of
 -- keys is. Assumes nothing.
-use Rattle.std.specs.Prelude.{ℕ, ◌^◌, ◌<◌, ◌≡◌, Bool, true, false, List, length, get_or}
+use Rattle.std.specs.Prelude.{ℕ, ◌^◌, ◌<◌, ◌≡◌, true, false, List, length, get_or}
 use Rattle.std.proofs.Math.Option.{none}
 use Rattle.run_keys.specs.Keys.{singleton, holds, subset}
 use Rattle.plan_packed.specs.Format.{procedures, terms}

@@ -1,7 +1,7 @@
-use Prim.Native.Nat.{ℕ, ◌-◌, ◌≤◌, ◌<◌}
+use Prim.Native.Nat.{ℕ, ◌≤◌, ◌<◌}
 use native.Mathlib.Omega.{arith}
 use mathlib.Core.Path.{◌≡◌}
-use Rattle.canonical.proofs.Procedures.{At, in_order, few, sized, at_start, kept, at_end, root_inside, number_inside, parameters_small, room, next}
+use Rattle.canonical.proofs.Procedures.{in_order, few, sized, at_start, kept, at_end, root_inside, number_inside, parameters_small, room, next}
 use Rattle.plan_writer.proofs.Stores.{two_keeps}
 use Rattle.canonical.proofs.write_trees.Goals as goal
 
@@ -48,11 +48,6 @@ pub write_expression-number-requires : goal.write_expression-number-requires
 write_expression-number-requires c =
     let l = c.loop-procedure in
     let h = below c.loop-procedure-test.true c.requires.count_value in rw (c.root-root.ensures, c.requires.count_value) (record { ordered = (in_order _ _ c.requires.ready, root_inside _ _ c.requires.ready l.invariant h); room = room _ _ c.requires.ready l.invariant h (two_keeps _ _ _ c.put_procedure.ensures) })
-
-pub overflow_add-procedure-in-loop-procedure : goal.overflow_add-procedure-in-loop-procedure
-overflow_add-procedure-in-loop-procedure c = let q =
-    few _ _ c.requires.ready in
-    omega (arith, c.requires.count_value)
 
 pub loop-procedure-preserved : goal.loop-procedure-preserved
 loop-procedure-preserved c =

@@ -7,15 +7,15 @@ use Rattle.comtrade_files.proofs.write_log.Goals as goal
 
 pub slice_bounds-area-end : goal.slice_bounds-area-end
 slice_bounds-area-end g c =
-    let m = value_means _ _ (sym (ap answered c.in-Value.is) ∙ c.comtrade-answered.ensures.answer) in
-    omega (arith, m.1, c.comtrade-answered.auto.area)
+    let m = value_means _ _ (sym (ap answered c.in-Ok.is) ∙ c.comtrade.ensures.answer) in
+    omega (arith, m.1, c.comtrade.auto.area)
 
 pub slice_bounds-write_file-end : goal.slice_bounds-write_file-end
 slice_bounds-write_file-end g c =
-    let m = value_means _ _ (sym (ap answered c.in-Value.is) ∙ c.comtrade-answered.ensures.answer) in
-    sym (length-take-le _ _ (omega (arith, m.1, c.comtrade-answered.auto.area)))
+    let m = value_means _ _ (sym (ap answered c.in-Ok.is) ∙ c.comtrade.ensures.answer) in
+    sym (length-take-le _ _ (omega (arith, m.1, c.comtrade.auto.area)))
 
 pub write_configuration-requires : goal.write_configuration-requires
 write_configuration-requires g c =
-    let m = value_means _ _ (sym (ap answered c.in-Value.is) ∙ c.comtrade-answered.ensures.answer) in
+    let m = value_means _ _ (sym (ap answered c.in-Ok.is) ∙ c.comtrade.ensures.answer) in
     omega (arith, (accepted _ m.0).length_most)

@@ -2,7 +2,6 @@
 use native.Mathlib.Omega.{arith}
 use Rattle.log_arrows.proofs.OfLog.{log_short}
 use Rattle.diagram.proofs.Pictures.{drawn, too_short}
-use borrow.Author.Rules.{rules}
 use Rattle.diagram.proofs.draw.Goals as goal
 
 pub overflow_mul-log : goal.overflow_mul-log
@@ -12,7 +11,7 @@ pub overflow_add-log : goal.overflow_add-log
 overflow_add-log c = omega (arith, log_short c.args.log.now c.requires.passed)
 
 pub returns-then-area-log : goal.returns-then-area-log
-returns-then-area-log c = too_short c.requires (omega (arith, c.if-area-log.true))
+returns-then-area-log c = rw c.at.ensures (too_short c.requires (omega (arith, c.if-area-log.true)))
 
 pub put_picture-requires : goal.put_picture-requires
 put_picture-requires c = record { judged = c.requires; room = omega (arith, c.if-area-log.false) }

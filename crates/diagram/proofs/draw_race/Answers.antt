@@ -1,6 +1,5 @@
 -- `diagram::draw_race` meets its contract. Assumes nothing.
 use Rattle.diagram.proofs.Pictures.{named_search, red_last}
-use borrow.Author.Rules.{rules}
 use Rattle.diagram.proofs.draw_race.Goals as goal
 
 pub last_conflict-earlier-requires : goal.last_conflict-earlier-requires

@@ -6,7 +6,6 @@ use Rattle.format.specs.Version.{version_of}
 use Rattle.log_records.proofs.Accepted.{accepted}
 use Rattle.log_arrows.proofs.OfLog.{log_short}
 use Rattle.diagram.proofs.Pictures.{arrows_inside, race_inside, wrote_arrows}
-use borrow.Author.Rules.{rules}
 use Rattle.diagram.proofs.put_picture.Goals as goal
 
 pub needed-count-requires : goal.needed-count-requires

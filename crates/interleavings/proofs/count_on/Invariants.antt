@@ -1,11 +1,6 @@
 -- `count_on` meets its contract. Assumes nothing.
-use Prim.Native.Nat.{◌-◌, ◌≤◌}
-use native.Mathlib.Omega.{arith}
-use mathlib.Core.Path.{◌≡◌, refl, sym, subst as along}
-use lib.ListN.{length}
-use borrow.Author.Rules.{rules}
-use Rattle.interleavings.specs.Inner.Steps.{Stands, Advanced}
-use Rattle.interleavings.proofs.Counting.{longer}
+use Rattle.std.proofs.Common.{◌≡◌, ◌≤◌, ◌-◌, length}
+use Rattle.interleavings.specs.Inner.Steps.{Stands}
 use Rattle.interleavings.proofs.count_on.Given as goal
 
 abbrev pub invariant-loop-place : goal.invariant-loop-place

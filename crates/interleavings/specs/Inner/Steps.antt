@@ -1,5 +1,5 @@
 -- Going back and going on, step by step. For inner contracts; no reader of the entries' promise needs it. Assumes nothing.
-use Rattle.std.specs.Prelude.{ℕ, ◌+◌, ◌≤◌, ◌<◌, ◌≡◌, true, false, List, length, get_or, take, drop}
+use Rattle.std.specs.Prelude.{ℕ, ◌+◌, ◌≤◌, ◌<◌, ◌≡◌, true, false, List, length, get_or, take, drop, Option, Some, None}
 use Rattle.std.proofs.Math.Option.{some}
 use Rattle.std.proofs.Math.ListN.{get_elem?}
 use Rattle.format.specs.Area.{overwrite}
@@ -13,10 +13,6 @@ use Rattle.listing.specs.Inner.CanFollow.{can_follow}
 use Rattle.listing.specs.Inner.Ways.{Way}
 use Rattle.run_replays.specs.Inner.Replay.{Accepted}
 use Rattle.run_replays.specs.Inner.Told.{Noted}
-use Rattle.interleavings.specs.declared.Next.{Next}
-use Rattle.interleavings.specs.declared.Next.TheVariants as next
-use Rattle.interleavings.specs.declared.Counted.{Counted}
-use Rattle.interleavings.specs.declared.Counted.TheVariants as counted
 
 -- ---- going on
 
@@ -65,10 +61,9 @@ pub record Listing (plan words : List ℕ) (n : ℕ) (schedule notes area : List
   pub noted : Noted (program_of plan) schedule notes
 
 -- the following schedule is written, or the list is over
-abbrev pub Followed : Program → ℕ → List ℕ → List ℕ → List ℕ → Next → Type 0
-Followed g n ps before after (next.Refused number place) = ⊥
-Followed g n ps before after (next.Written r) = (qs : List ℕ) × Following g n ps qs × (r ≡ length qs) × (after ≡ overwrite qs before)
-Followed g n ps before after next.Over = listing.Over g n ps × (after ≡ before)
+abbrev pub Followed : Program → ℕ → List ℕ → List ℕ → List ℕ → Option ℕ → Type 0
+Followed g n ps before after (Some r) = (qs : List ℕ) × Following g n ps qs × (r ≡ length qs) × (after ≡ overwrite qs before)
+Followed g n ps before after None = listing.Over g n ps × (after ≡ before)
 
 -- ---- counting
 
@@ -82,13 +77,11 @@ pub record Stands (plan words : List ℕ) (n : ℕ) (area : List ℕ) (picks pla
   pub at_place : (L : List (List ℕ)) → WholeList (program_of plan) n L → get_elem? L place ≡ some (take picks area)
 
 -- after one step: the next schedule stands there, or the whole list ends here
-abbrev pub Advanced : (plan words : List ℕ) → ℕ → List ℕ → ℕ → Next → Type 0
-Advanced plan words n after place (next.Refused number at) = ⊥
-Advanced plan words n after place (next.Written picks) = Stands plan words n after picks (place + 1)
-Advanced plan words n after place next.Over = (L : List (List ℕ)) → WholeList (program_of plan) n L → length L ≡ place + 1
+abbrev pub Advanced : (plan words : List ℕ) → ℕ → List ℕ → ℕ → Option ℕ → Type 0
+Advanced plan words n after place (Some picks) = Stands plan words n after picks (place + 1)
+Advanced plan words n after place None = (L : List (List ℕ)) → WholeList (program_of plan) n L → length L ≡ place + 1
 
 -- what counting on from the first schedule answers
-abbrev pub CountsOn : (plan : List ℕ) → (n limit : ℕ) → Counted → Type 0
-CountsOn plan n limit (counted.Refused number place) = ⊥
-CountsOn plan n limit (counted.All r) = ((L : List (List ℕ)) → WholeList (program_of plan) n L → r ≡ length L) × (r ≤ limit)
-CountsOn plan n limit counted.More = (L : List (List ℕ)) → WholeList (program_of plan) n L → limit < length L
+abbrev pub CountsOn : (plan : List ℕ) → (n limit : ℕ) → Option ℕ → Type 0
+CountsOn plan n limit (Some r) = ((L : List (List ℕ)) → WholeList (program_of plan) n L → r ≡ length L) × (r ≤ limit)
+CountsOn plan n limit None = (L : List (List ℕ)) → WholeList (program_of plan) n L → limit < length L

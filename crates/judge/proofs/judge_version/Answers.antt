@@ -4,17 +4,16 @@ use Rattle.log_conflicts.specs.Judge.{refuses}
 use Rattle.log_records.specs.Refusals.{log_refusal}
 use mathlib.Core.Path.{◌≡◌, sym, ◌∙◌}
 use mathlib.Core.Option.{none}
-use borrow.Author.Rules.{rules}
 use Rattle.judge.proofs.judge_version.Goals as goal
 use Rattle.judge.proofs.judge_version.Goals.{Else-wrong-log}
 
 pub returns-then-wrong_length : goal.returns-then-wrong_length
-returns-then-wrong_length c = refuses (refused_length c.args.log.now (sym c.if-wrong_length.true ∙ c.wrong_length.ensures))
+returns-then-wrong_length c = rw c.at.ensures (refuses (refused_length c.args.log.now (sym c.if-wrong_length.true ∙ c.wrong_length.ensures)))
 
 pub returns-then-wrong-log : goal.returns-then-wrong-log
-returns-then-wrong-log c = refuses
+returns-then-wrong-log c = rw c.at-then-wrong-log.ensures (refuses
     (refused_record c.args.log.now c.lowest_wrong-wrong.result
-    (sym c.if-wrong_length.false ∙ c.wrong_length.ensures) c.lowest_wrong-wrong.ensures c.if-wrong-log.true)
+    (sym c.if-wrong_length.false ∙ c.wrong_length.ensures) c.lowest_wrong-wrong.ensures c.if-wrong-log.true))
 
 -- past both tests nothing refuses the log
 passed : (p : Else-wrong-log) → log_refusal p.args.log.now ≡ none

@@ -1,42 +1,27 @@
 -- What a pass finds. No reader of the entries' promises needs it. Assumes nothing.
-use Rattle.std.specs.Prelude.{ℕ, ◌<◌, Bool, true, false, List}
+use Rattle.std.specs.Prelude.{ℕ, ◌<◌, Bool, true, false, List, Option, Some, None, Result, Ok, Err}
 use Rattle.std.proofs.Math.Option.{some, none}
 use Rattle.format.specs.Version.{Version}
 use Rattle.log_records.specs.Packed.{record_count, log_of}
 use Rattle.log_conflicts.specs.Judge.{Names}
-use Rattle.log_effects.specs.declared.Taking.{Taking}
-use Rattle.log_effects.specs.declared.Taking.TheVariants.{Taken, Unordered, NoneLeft}
-use Rattle.judge.specs.declared.Judgement.{Judgement}
-use Rattle.judge.specs.declared.Judgement.TheVariants as judgement
-use Rattle.judge.specs.declared.pass.Found.{Found}
-use Rattle.judge.specs.declared.pass.Found.TheVariants.{Access, Nothing, Full}
+use Rattle.log_effects.specs.declared.NoneLeft.{NoneLeft}
+
+-- what a pass finds: the index of the first unordered access, or none; or that the log is at more places than the table has rows for
+abbrev pub Found : Type 0
+Found = Result (Option ℕ) NoneLeft
 
 -- by a table for so many places: what the judge names, or that the log has more records than these, and there are more places
 pub data Finds (v : Version) (b : List ℕ) (places : ℕ) : Found → Type 0 where
-  finds_access : {i : ℕ} → Names v (log_of b) (some i) → Finds v b places (Access i)
-  finds_nothing : Names v (log_of b) none → Finds v b places Nothing
-  finds_full : places < record_count b → places < 1024 → Finds v b places Full
-
--- what is found at record i, by what came of it
-abbrev pub found_of : ℕ → Taking → Found
-found_of i Taken = Nothing
-found_of i Unordered = Access i
-found_of i NoneLeft = Full
-
--- it ends the pass
-abbrev pub is_end : Taking → Bool
-is_end Taken = false
-is_end Unordered = true
-is_end NoneLeft = true
+  finds_access : {i : ℕ} → Names v (log_of b) (some i) → Finds v b places (Ok (Some i))
+  finds_nothing : Names v (log_of b) none → Finds v b places (Ok None)
+  finds_full : {e : NoneLeft} → places < record_count b → places < 1024 → Finds v b places (Err e)
 
 -- as an answer
-abbrev pub judgement_of : Found → Judgement
-judgement_of (Access index) = judgement.Unordered index
-judgement_of Nothing = judgement.Ordered
-judgement_of Full = judgement.Ordered
+abbrev pub judgement_of : Found → Option ℕ
+judgement_of (Ok found) = found
+judgement_of (Err e) = None
 
 -- the table did not suffice
 abbrev pub is_full : Found → Bool
-is_full (Access index) = false
-is_full Nothing = false
-is_full Full = true
+is_full (Ok found) = false
+is_full (Err e) = true

@@ -5,7 +5,6 @@ use Rattle.log_arrows.proofs.OfLog.{log_short, heard_earlier, whole}
 use Rattle.log_arrows.specs.Arrows.{AllArrows}
 use native.Mathlib.Omega.{arith}
 use mathlib.Core.Path.{sym, subst}
-use borrow.Author.Rules.{rules}
 use Rattle.log_arrows.proofs.needed.Goals as goal
 
 pub rows-requires : goal.rows-requires

@@ -6,7 +6,6 @@ use lib.Signed.{lt_z}
 use mir.Syntax.{w16}
 use mir.Val.{to_z}
 use borrow.Author.Tests.{lt-ltb}
-use borrow.Author.Rules.{rules}
 use Rattle.log_clocks.proofs.less.Goals as goal
 
 signed_less : (a b : ℕ) → a < 32768 → b < 32768 → lt_z (to_z w16 a) (to_z w16 b) ≡ ltb a b

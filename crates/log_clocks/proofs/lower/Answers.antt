@@ -3,9 +3,8 @@ use native.Mathlib.Omega.{arith}
 use native.Mathlib.Numerals.{add-one}
 use mathlib.Core.Bool.{Bool, false, ◌||◌}
 use mathlib.Core.Path.{◌≡◌, refl, ◌∙◌, ap}
-use Prim.Native.Nat.{ℕ, ◌+◌, ◌-◌, ◌≤◌}
+use Prim.Native.Nat.{ℕ, ◌+◌}
 use lib.Dec.{ltb}
-use borrow.Author.Rules.{rules}
 use Rattle.log_clocks.proofs.lower.Goals as goal
 
 none_yet : (own heard : Row) → false ≡ lower_of 0 own heard
@@ -23,11 +22,11 @@ at_eight own heard n found e h = h ∙ ap (λ (m : ℕ). lower_of m own heard) e
 pub loop-thread-init : goal.loop-thread-init
 loop-thread-init c = (omega arith, none_yet _ _)
 
-pub less-late-requires : goal.less-late-requires
-less-late-requires c = let p = c.requires in record { one_in = p.own_low _; other_in = p.heard_low _ }
+pub less-found-requires : goal.less-found-requires
+less-found-requires c = let p = c.requires in record { one_in = p.own_low _; other_in = p.heard_low _ }
 
 pub loop-thread-preserved : goal.loop-thread-preserved
-loop-thread-preserved c = (omega arith, one_more_lem _ _ _ _ _ c.loop-thread.invariant.1 c.less-late.ensures)
+loop-thread-preserved c = (omega arith, one_more_lem _ _ _ _ _ c.loop-thread.invariant.1 c.less-found.ensures)
 
 pub returns : goal.returns
 returns c = at_eight _ _ _ _ (omega arith) c.loop-thread.invariant.1

@@ -1,10 +1,9 @@
 use Rattle.format.proofs.Filled.{filled}
 use Rattle.log_clocks.specs.Inner.Rows.{clock_of}
-use lib.ListN.{length, get_or, length-set, length-replicate}
+use lib.ListN.{length-set, length-replicate}
 use native.Mathlib.Omega.{arith}
 use mathlib.Core.Path.{◌≡◌, ap, ◌∙◌}
-use Prim.Native.Nat.{ℕ, ◌-◌, ◌<◌, ◌≤◌, max, min}
-use borrow.Author.Rules.{rules}
+use Prim.Native.Nat.{ℕ, max, min}
 use Rattle.log_clocks.proofs.raised_to.Goals as goal
 
 pub loop-thread-init : goal.loop-thread-init

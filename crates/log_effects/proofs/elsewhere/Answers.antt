@@ -3,7 +3,6 @@ use mathlib.Core.Logic.{inl, inr}
 use native.Mathlib.Omega.{arith}
 use Rattle.log_effects.specs.Inner.Step.{rests}
 use Rattle.log_effects.proofs.Steps.{forks_by, joins_by}
-use borrow.Author.Rules.{rules}
 use Rattle.log_effects.proofs.elsewhere.Goals as goal
 
 pub tell-requires : goal.tell-requires

@@ -1,7 +1,5 @@
 -- `log_effects::number_at` meets its contract. Assumes nothing.
-use native.Mathlib.Omega.{arith}
 use Rattle.log_effects.proofs.Steps.{numbered_at}
-use borrow.Author.Rules.{rules}
 use Rattle.log_effects.proofs.number_at.Goals as goal
 
 pub number-requires : goal.number-requires

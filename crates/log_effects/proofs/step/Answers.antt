@@ -5,7 +5,6 @@ use mathlib.Core.Path.{◌≡◌, refl, sym, subst, ◌∙◌}
 use Prim.Native.Nat.{ℕ}
 use mathlib.Core.Logic.{◌⊎◌}
 use native.Mathlib.Omega.{arith}
-use borrow.Author.Rules.{rules}
 use Rattle.log_effects.proofs.step.Goals as goal
 
 pub overflow_cast-time : goal.overflow_cast-time
@@ -20,25 +19,19 @@ number_at-number-requires c = c.requires.numbers
 pub returns-then-number-eq0 : goal.returns-then-number-eq0
 returns-then-number-eq0 c = none_left c.number_at-number.ensures c.if-number-eq0.true
 
-pub access-requires-then-access : goal.access-requires-then-access
-access-requires-then-access c =
+pub access-unordered-requires : goal.access-unordered-requires
+access-unordered-requires c =
     let p = c.requires in
     let f = c.first-at.ensures in
     let n = number_most c.number_at-number.ensures p.numbered in
     let t = c.thread_at-thread.ensures.result_in in
     record { sound = p.sound; thread_in = t; time_in = omega (arith, p.short); at_in = (omega arith, omega (arith, p.most_below)); room = omega (arith, p.room) }
 
-pub returns-then-access-2 : goal.returns-then-access-2
-returns-then-access-2 c =
-    placed_by _ _ c.kind_at-kind.ensures c.thread_at-thread.ensures.value c.number_at-number.ensures c.if-number-eq0.false
-    c.first-at.ensures c.if-access-2.true
-    (accesses (sym c.access.ensures ∙ c.if-access.true) c.access-then-access.ensures)
-
 pub returns-then-access : goal.returns-then-access
 returns-then-access c =
     placed_by _ _ c.kind_at-kind.ensures c.thread_at-thread.ensures.value c.number_at-number.ensures c.if-number-eq0.false
-    c.first-at.ensures c.if-access-2.false
-    (accesses (sym c.access.ensures ∙ c.if-access.true) c.access-then-access.ensures)
+    c.first-at.ensures refl
+    (accesses (sym c.access.ensures ∙ c.if-access.true) c.access-unordered.ensures)
 
 pub number_at-number-requires-then-hears : goal.number_at-number-requires-then-hears
 number_at-number-requires-then-hears c = c.requires.numbers

@@ -1,12 +1,11 @@
 -- What a record does to the table of rows. No reader of the entries' promises needs it. Assumes nothing.
-use Rattle.std.specs.Prelude.{ℕ, ◌+◌, ◌/◌, ◌<◌, ◌≤◌, ◌≡◌, Bool, true, false, List, ◌⊎◌, length, get_or}
+use Rattle.std.specs.Prelude.{ℕ, ◌+◌, ◌/◌, ◌<◌, ◌≤◌, ◌≡◌, Bool, true, false, List, ◌⊎◌, length, get_or, Result, Ok, Err}
 use Rattle.log_records.specs.Packed.{kind_at, record_at}
 use Rattle.log_clocks.specs.Inner.Rows.{Row}
 use Rattle.log_places.specs.Inner.Places.{thread_at, place_at, numbers_of, Numbered}
 use Rattle.log_rows.specs.Inner.Rows.{place_row, is_access, passes}
 use Rattle.log_row_stores.specs.Inner.Table.{Sound, Hears, Told, Accessed}
-use Rattle.log_effects.specs.declared.Taking.{Taking}
-use Rattle.log_effects.specs.declared.Taking.TheVariants.{Taken, Unordered, NoneLeft}
+use Rattle.log_effects.specs.declared.NoneLeft.{NoneLeft}
 
 -- the field of record i of a log in bytes
 abbrev pub field_at : List ℕ → ℕ → ℕ
@@ -49,17 +48,12 @@ pub data OtherStep (k t f time : ℕ) (rows : List Row) : List Row → Type 0 wh
   joins : {after : List Row} → k ≡ 9 → Told t f time rows after → OtherStep k t f time rows after
   rests : (k ≡ 8 → ⊥) → (k ≡ 9 → ⊥) → OtherStep k t f time rows rows
 
--- what comes of a record at a place, by whether it is an unordered access
-abbrev pub taking_of : Bool → Taking
-taking_of true = Unordered
-taking_of false = Taken
-
--- what record i does, by the kinds of volatile accesses that order something, and what comes of it
-pub data Stepped (b : List ℕ) (i read write most : ℕ) (N : List ℕ) (given : ℕ) (rows : List Row) : List ℕ → ℕ → List Row → Taking → Type 0 where
+-- what record i does, by the kinds of volatile accesses that order something, and whether it is an unordered access, or no number is left for its place
+pub data Stepped (b : List ℕ) (i read write most : ℕ) (N : List ℕ) (given : ℕ) (rows : List Row) : List ℕ → ℕ → List Row → Result Bool NoneLeft → Type 0 where
   placed : {N' : List ℕ} {given' n : ℕ} {after : List Row} {d : Bool} → Numbered N given (place_at b i) most N' given' n → (n ≡ 0 → ⊥)
       → PlacedStep read write (kind_at b i) (thread_at b i) (place_row n) (i + 1) rows after d
-      → Stepped b i read write most N given rows N' given' after (taking_of d)
+      → Stepped b i read write most N given rows N' given' after (Ok d)
   unplaced : {after : List Row} → is_access (kind_at b i) ≡ false → passes 6 read (kind_at b i) ≡ false → passes 7 write (kind_at b i) ≡ false
-      → OtherStep (kind_at b i) (thread_at b i) (field_at b i) (i + 1) rows after → Stepped b i read write most N given rows N given after Taken
-  none_left : {N' : List ℕ} {given' n : ℕ} → Numbered N given (place_at b i) most N' given' n → n ≡ 0
-      → Stepped b i read write most N given rows N' given' rows NoneLeft
+      → OtherStep (kind_at b i) (thread_at b i) (field_at b i) (i + 1) rows after → Stepped b i read write most N given rows N given after (Ok false)
+  none_left : {N' : List ℕ} {given' n : ℕ} {e : NoneLeft} → Numbered N given (place_at b i) most N' given' n → n ≡ 0
+      → Stepped b i read write most N given rows N' given' rows (Err e)

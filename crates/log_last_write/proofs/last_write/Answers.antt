@@ -1,7 +1,6 @@
-use Prim.Native.Nat.{ℕ, suc, ◌-◌, ◌≤◌}
+use Prim.Native.Nat.{ℕ, suc, ◌-◌}
 use native.Mathlib.Omega.{arith}
-use mathlib.Core.Path.{◌≡◌, refl, sym, subst as along}
-use borrow.Author.Rules.{rules}
+use mathlib.Core.Path.{◌≡◌, subst as along}
 use Rattle.log_last_write.proofs.LastWrites.{Earlier, passed, found, not_none}
 use Rattle.log_last_write.proofs.last_write.Goals as goal
 
@@ -9,10 +8,10 @@ pub columns_at-access-requires : goal.columns_at-access-requires
 columns_at-access-requires c = c.requires.inside
 
 pub loop-index-init : goal.loop-index-init
-loop-index-init c = (omega arith, λ m w there writes less. less)
+loop-index-init c = λ m w there writes less. less
 
 pub columns_at-columns-requires : goal.columns_at-columns-requires
-columns_at-columns-requires c = omega (arith, c.loop-index.invariant.0, c.requires.inside)
+columns_at-columns-requires c = omega (arith, c.loop-index.auto.index, c.requires.inside)
 
 pub returns-then-columns-access : goal.returns-then-columns-access
 returns-then-columns-access c =
@@ -20,21 +19,19 @@ returns-then-columns-access c =
     let taken = c.loop-index-test.true in
     let next : c.loop-index.index ≡ suc i = omega arith in
     found {j = c.args.failing} {i = i} c.columns_at-access.ensures c.columns_at-columns.ensures
-    (omega (arith, c.loop-index.invariant.0, c.requires.inside)) c.if-columns-access.true
-    (omega (arith, c.loop-index.invariant.0)) (along (Earlier c.args.log.now c.args.failing) next c.loop-index.invariant.1)
+    (omega (arith, c.loop-index.auto.index, c.requires.inside)) c.if-columns-access.true
+    (omega (arith, c.loop-index.auto.index)) (along (Earlier c.args.log.now c.args.failing) next c.loop-index.invariant)
 
 pub loop-index-preserved : goal.loop-index-preserved
 loop-index-preserved c =
     let i : ℕ = c.loop-index.index - 1 in
     let taken = c.loop-index-test.true in
-    let next : c.loop-index.index ≡ suc i = omega arith in (
-      omega (arith, c.loop-index.invariant.0),
-      passed {j = c.args.failing} {i = i} c.columns_at-access.ensures c.columns_at-columns.ensures
-          (omega (arith, c.loop-index.invariant.0, c.requires.inside)) c.if-columns-access.false
-          (along (Earlier c.args.log.now c.args.failing) next c.loop-index.invariant.1),
-    )
+    let next : c.loop-index.index ≡ suc i = omega arith in
+    passed {j = c.args.failing} {i = i} c.columns_at-access.ensures c.columns_at-columns.ensures
+    (omega (arith, c.loop-index.auto.index, c.requires.inside)) c.if-columns-access.false
+    (along (Earlier c.args.log.now c.args.failing) next c.loop-index.invariant)
 
 pub returns : goal.returns
 returns c =
     let none_left : c.loop-index.index ≡ 0 = omega (arith, c.loop-index-test.false) in
-    absurd (not_none c.requires (along (Earlier c.args.log.now c.args.failing) none_left c.loop-index.invariant.1))
+    absurd (not_none c.requires (along (Earlier c.args.log.now c.args.failing) none_left c.loop-index.invariant))

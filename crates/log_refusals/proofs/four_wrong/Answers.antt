@@ -3,7 +3,6 @@ use Rattle.log_limits.proofs.Tables.{early_table}
 use lib.ListN.{length}
 use native.Mathlib.Omega.{arith}
 use Prim.Native.Nat.{◌+◌, ◌/◌}
-use borrow.Author.Rules.{rules}
 use Rattle.log_refusals.proofs.four_wrong.Goals as goal
 
 pub wrong_record-first-requires : goal.wrong_record-first-requires

@@ -1,12 +1,7 @@
-use Rattle.log_records.specs.Refusals.{wrong_record}
 use Rattle.log_records.specs.Packed.{record_count}
 use Rattle.log_refusals.proofs.Fours.{four_more}
-use lib.ListN.{length}
-use mathlib.Core.Bool.{false}
-use mathlib.Core.Path.{◌≡◌, refl, sym, ◌∙◌}
+use mathlib.Core.Path.{refl, sym, ◌∙◌}
 use native.Mathlib.Omega.{arith}
-use Prim.Native.Nat.{ℕ, ◌-◌, ◌/◌, ◌<◌, ◌≤◌}
-use borrow.Author.Rules.{rules}
 use Rattle.log_refusals.proofs.right_fours.Goals as goal
 
 pub loop-index-init : goal.loop-index-init

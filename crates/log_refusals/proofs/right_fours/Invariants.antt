@@ -1,13 +1,9 @@
 -- `log_refusals::right_fours` meets its contract. The invariant: no record so far is wrong. The measure is the count of records left. Assumes nothing.
 use Rattle.log_records.specs.Refusals.{wrong_record}
-use Rattle.log_records.specs.Packed.{record_count}
-use Rattle.log_refusals.proofs.Fours.{four_more}
 use lib.ListN.{length}
 use mathlib.Core.Bool.{false}
-use mathlib.Core.Path.{◌≡◌, refl, sym, ◌∙◌}
-use native.Mathlib.Omega.{arith}
+use mathlib.Core.Path.{◌≡◌}
 use Prim.Native.Nat.{ℕ, ◌-◌, ◌/◌, ◌<◌, ◌≤◌}
-use borrow.Author.Rules.{rules}
 use Rattle.log_refusals.proofs.right_fours.Given as goal
 
 abbrev pub invariant-loop-index : goal.invariant-loop-index

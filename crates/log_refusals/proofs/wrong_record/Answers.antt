@@ -1,7 +1,6 @@
 -- `log_refusals::wrong_record` meets its contract: its tests are the definition's. Assumes nothing.
 use Rattle.log_refusals.proofs.WrongRecords.{spare_below, wrong_is}
 use native.Mathlib.Omega.{arith}
-use borrow.Author.Rules.{rules}
 use Rattle.log_refusals.proofs.wrong_record.Goals as goal
 
 pub overflow_add-bits-2 : goal.overflow_add-bits-2

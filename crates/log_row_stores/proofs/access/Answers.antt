@@ -2,7 +2,6 @@
 use Rattle.log_row_stores.proofs.Accesses.{held_within, kept_within, late_by, kept_in}
 use native.Mathlib.Omega.{arith}
 use mathlib.Core.Path.{sym}
-use borrow.Author.Rules.{rules}
 use Rattle.log_row_stores.proofs.access.Goals as goal
 
 pub offset_bounds-table-held : goal.offset_bounds-table-held

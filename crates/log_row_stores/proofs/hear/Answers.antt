@@ -1,7 +1,6 @@
 -- `log_row_stores::hear` meets its contract. Assumes nothing.
 use Rattle.log_row_stores.proofs.Stores.{heard_by}
 use native.Mathlib.Omega.{arith}
-use borrow.Author.Rules.{rules}
 use Rattle.log_row_stores.proofs.hear.Goals as goal
 
 pub raised_to-requires : goal.raised_to-requires

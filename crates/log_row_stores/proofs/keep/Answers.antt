@@ -1,6 +1,5 @@
 -- `log_row_stores::keep` meets its contract. Assumes nothing.
 use Rattle.log_row_stores.proofs.Stores.{kept_by}
-use borrow.Author.Rules.{rules}
 use Rattle.log_row_stores.proofs.keep.Goals as goal
 
 pub returns : goal.returns

@@ -1,9 +1,5 @@
 use Rattle.log_row_stores.proofs.Stores.{started_none, started_eight, started_one_more}
-use Rattle.log_row_stores.specs.Inner.Table.{Started}
-use Prim.Native.Nat.{◌-◌, ◌≤◌}
-use lib.ListN.{length}
 use native.Mathlib.Omega.{arith}
-use borrow.Author.Rules.{rules}
 use Rattle.log_row_stores.proofs.start.Goals as goal
 
 pub loop-thread-init : goal.loop-thread-init

@@ -1,6 +1,5 @@
 -- `log_row_stores::tell` meets its contract. Assumes nothing.
 use Rattle.log_row_stores.proofs.Stores.{told_by}
-use borrow.Author.Rules.{rules}
 use Rattle.log_row_stores.proofs.tell.Goals as goal
 
 pub raised_to-requires : goal.raised_to-requires

@@ -1,10 +1,9 @@
 -- `log_rows::ordering` meets its contract. Assumes nothing.
 use Prim.Native.Nat.{ℕ}
-use mathlib.Core.Path.{◌≡◌, refl}
+use mathlib.Core.Path.{◌≡◌}
 use borrow.Author.Tests.{eq-eqb, ne_eqb}
 use Rattle.format.specs.Version.{version_of}
 use Rattle.log_rows.specs.Inner.Rows.{ordering_kind}
-use borrow.Author.Rules.{rules}
 use Rattle.log_rows.proofs.ordering.Goals as goal
 
 orders : (n volatile : ℕ) → n ≡ 1 → volatile ≡ ordering_kind (version_of n) volatile

@@ -1,8 +1,7 @@
-use Prim.Native.Nat.{ℕ, suc, ◌+◌, ◌-◌, ◌≤◌}
+use Prim.Native.Nat.{◌-◌}
 use native.Mathlib.Omega.{arith}
-use mathlib.Core.Path.{◌≡◌, refl, sym, ap, ◌∙◌}
+use mathlib.Core.Path.{◌≡◌, ap}
 use mathlib.Core.Logic.{⊎_elim}
-use borrow.Author.Rules.{rules}
 use Rattle.log_schedule_writer.specs.Inner.Kept.{flagged, count_kept}
 use Rattle.log_schedule_writer.proofs.Counts.{counted_one, counted_none, none_left}
 use Rattle.log_schedule_writer.proofs.count.Goals as goal
@@ -10,7 +9,6 @@ use Rattle.log_schedule_writer.proofs.count.Goals as goal
 pub loop-index-init : goal.loop-index-init
 loop-index-init c = let a =
     c.args in (
-      omega arith,
       omega arith,
       let e : a.moves - 0 ≡ a.moves = omega arith in let k = ap (count_kept (flagged a.kept.now) 0) e in
           omega (arith, k),
@@ -22,13 +20,13 @@ loop-index-preserved c =
     let a = c.args in
     let h = c.loop-index-test.true in
     ⊎_elim (λ w. let e = counted_one (flagged a.kept.now) l.index a.moves h w.if-kept-index.true in
-    (omega arith, omega (arith, w.total-is), omega (arith, e, w.total-is, l.invariant.2)))
+    (omega (arith, w.total-is), omega (arith, e, w.total-is, l.invariant.1)))
     (λ w. let e = counted_none (flagged a.kept.now) l.index a.moves h w.if-kept-index.false in
-    (omega arith, omega (arith, w.total-is), omega (arith, e, w.total-is, l.invariant.2))) c.if-kept-index.branch-raw
+    (omega (arith, w.total-is), omega (arith, e, w.total-is, l.invariant.1))) c.if-kept-index.branch-raw
 
 pub returns : goal.returns
 returns c =
     let l = c.loop-index in
     let a = c.args in
     let e = none_left (flagged a.kept.now) l.index a.moves (omega arith) in
-    (omega (arith, e, l.invariant.2), omega arith)
+    (omega (arith, e, l.invariant.1), omega arith)

@@ -1,11 +1,11 @@
-use Prim.Native.Nat.{suc, ◌+◌, ◌-◌, ◌/◌}
+use Prim.Native.Nat.{suc, ◌+◌}
 use native.Mathlib.Omega.{arith}
 use mathlib.Core.Path.{◌≡◌, refl, ◌∙◌}
 use mathlib.Core.Logic.{⊎_elim}
-use lib.ListN.{length, length-set}
+use lib.ListN.{length-set}
 use borrow.Author.Tests.{eq-eqb, ne_eqb}
 use borrow.Author.Rules.{rules}
-use Rattle.log_schedule_writer.proofs.Picks.{Writing, writing_start, writing_end, at_below, writing_skip, writing_pick, writing_fork, writing_as}
+use Rattle.log_schedule_writer.proofs.Picks.{writing_start, writing_end, at_below, writing_skip, writing_pick, writing_fork, writing_as}
 use Rattle.log_schedule_writer.proofs.put_picks.Goals as goal
 
 pub loop-index-init : goal.loop-index-init

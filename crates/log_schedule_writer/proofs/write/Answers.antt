@@ -3,7 +3,6 @@ use Prim.Native.Nat.{suc, ◌-◌, ◌/◌}
 use native.Mathlib.Omega.{arith}
 use mathlib.Core.Path.{◌≡◌}
 use lib.ListN.{length}
-use borrow.Author.Rules.{rules}
 use Rattle.log_schedule_writer.proofs.Whole.{has_last, few_picks, counted, writes_short, writes_all}
 use Rattle.log_schedule_writer.proofs.write.Goals as goal
 use Rattle.log_schedule_writer.proofs.write.Goals.{After-slice_known-1}
@@ -26,9 +25,9 @@ count-length-requires c = omega (arith, c.mark.auto.kept, c.requires.few)
 
 pub returns-then-area-length : goal.returns-then-area-length
 returns-then-area-length c =
-    writes_short c.requires _ (ends (goal.at.returns-then-area-length c).After-slice_known-1) c.last_write-last.result c.last_write-last.ensures
+    rw c.at.ensures (writes_short c.requires _ (ends (goal.at.returns-then-area-length c).After-slice_known-1) c.last_write-last.result c.last_write-last.ensures
     c.mark.new.kept c.mark.ensures.marked_in c.mark.ensures.same_beyond
-    c.count-length.result c.args.area.now c.count-length.ensures.0 c.if-area-length.true
+    c.count-length.result c.args.area.now c.count-length.ensures.0 c.if-area-length.true)
 
 pub put_picks-requires : goal.put_picks-requires
 put_picks-requires c =

@@ -1,8 +1,7 @@
 -- `check_names`: what the notes show, or the checks that found nothing and the first that found something, make the answer of the definition.
-use mathlib.Core.Path.{◌≡◌, refl, sym, ap, ◌∙◌}
+use mathlib.Core.Path.{◌≡◌, refl, sym, ◌∙◌}
 use mathlib.Core.Option.{some, none}
 use native.Mathlib.Omega.{arith}
-use borrow.Author.Rules.{rules}
 use Rattle.format.specs.Refusal.{lowest, refuse, first_refusal}
 use Rattle.format.specs.Inner.Lowest.{Lowest}
 use Rattle.format.proofs.LowestLaws.{found_none, missed, struck}
@@ -11,6 +10,7 @@ use Rattle.plan_packed.specs.Refusals.{wrongly_sorted, not_named_once}
 use Rattle.plan_packed.specs.Check.{checks}
 use Rattle.plan_packed.proofs.NameLaws.{all_names}
 use Rattle.plan_refusals.specs.Answer.{answered}
+use Rattle.plan_refusals.proofs.Stages.{told}
 use Rattle.plan.proofs.check_names.Goals as goal
 use Rattle.plan.proofs.check_names.Goals.{After-lowest_miscounted-miscounted}
 
@@ -48,7 +48,7 @@ returns-then-misplaced-count c =
     let b = c.args.plan.now in
     let m5 : lowest (wrongly_sorted b) (terms b) ≡ some c.name_all-misplaced.result =
     struck (wrongly_sorted b) _ (terms b) _ c.requires.right.headed.sized.terms_are c.name_all-misplaced.ensures.lowest c.if-misplaced-count.true in
-    ap answered c.refused.ensures ∙ sym (rw m5)
+    told c.at.ensures ∙ sym (rw m5)
 
 pub returns-then-miscounted-count : goal.returns-then-miscounted-count
 unfolding answered refuse first_refusal checks
@@ -59,7 +59,7 @@ returns-then-miscounted-count c =
     missed (wrongly_sorted b) _ (terms b) _ n c.name_all-misplaced.ensures.lowest c.if-misplaced-count.false in
     let m6 : lowest (not_named_once b) (terms b) ≡ some c.lowest_miscounted-miscounted.result =
     struck (not_named_once b) _ (terms b) _ n (named_once (goal.at.returns-then-miscounted-count c).After-lowest_miscounted-miscounted) c.if-miscounted-count.true in
-    ap answered c.refused-then-miscounted-count.ensures ∙ sym (rw (m5, m6))
+    told c.at-then-miscounted-count.ensures ∙ sym (rw (m5, m6))
 
 pub returns : goal.returns
 unfolding answered refuse first_refusal checks

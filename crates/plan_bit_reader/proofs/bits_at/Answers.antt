@@ -6,7 +6,6 @@ use native.Mathlib.Omega.{arith}
 use lib.Pow.{pow_pos}
 use Rattle.format.specs.Bits.{bits_at}
 use Rattle.format.proofs.BitLaws.{field_of, shl_one}
-use borrow.Author.Rules.{rules}
 use Rattle.plan_bit_reader.proofs.bits_at.Goals as goal
 
 -- the bits at p of the number x of their bytes

@@ -1,4 +1,4 @@
-use Prim.Native.Nat.{ℕ, ◌-◌, ◌<◌}
+use Prim.Native.Nat.{ℕ, ◌<◌}
 use Rattle.format.proofs.Ranges.{NoneOf}
 use Rattle.plan_bound_slots.proofs.Conditions.{before_truth, childless, equal_call, equal_next, equal_told, past_not}
 use Rattle.plan_bound_slots.proofs.Expressions.{call_left, call_list, fork_left, if_call, if_left, if_open, if_test, join_left, leaf_closed, leaf_open}
@@ -7,7 +7,6 @@ use Rattle.plan_bound_slots.proofs.Expressions.{variable_left, wait_left, while_
 use Rattle.plan_bound_slots.proofs.Lists.{ended, next}
 use Rattle.plan_bound_slots.proofs.Turns.{start}
 use Rattle.plan_bound_slots.specs.Inner.Left.{After, seen}
-use Rattle.plan_bound_slots.specs.declared.Rest.TheVariants.{Closed, Open}
 use Rattle.plan_packed.proofs.WalkSteps.{here, just}
 use mathlib.Core.List.{[], ◌∷◌}
 use mathlib.Core.Path.{ap, refl, subst, sym, ◌∙◌}
@@ -71,23 +70,14 @@ closed_condition-rest_of_two-rest-requires t c =
     (equal_call _ _ c.loop-term.invariant (rw c.word-word.ensures at (sym c.tag.ensures ∙ c.in-15.is))
     c.decreases)
 
-pub closed_condition-returns-in-Closed : goal.closed_condition-returns-in-Closed
+pub closed_condition-returns-in-Break : goal.closed_condition-returns-in-Break
 unfolding seen
-closed_condition-returns-in-Closed t c =
+closed_condition-returns-in-Break t c =
     let r = c.rest_of_two-rest in
     equal_told _ _ c.loop-term.invariant (rw c.word-word.ensures at (sym c.tag.ensures ∙ c.in-15.is)) r.result (
       rw (c.first-first.ensures, c.second-second.ensures, c.word-word.ensures) at r.ensures.result_value,
       rw (c.first-first.ensures, c.second-second.ensures, c.word-word.ensures) at r.ensures.by_index,
-    ) Closed c.in-Closed.is
-
-pub closed_condition-returns-in-Open : goal.closed_condition-returns-in-Open
-unfolding seen
-closed_condition-returns-in-Open t c =
-    let r = c.rest_of_two-rest in
-    equal_told _ _ c.loop-term.invariant (rw c.word-word.ensures at (sym c.tag.ensures ∙ c.in-15.is)) r.result (
-      rw (c.first-first.ensures, c.second-second.ensures, c.word-word.ensures) at r.ensures.result_value,
-      rw (c.first-first.ensures, c.second-second.ensures, c.word-word.ensures) at r.ensures.by_index,
-    ) Open c.in-Open.is
+    ) _ c.in-Break.is
 
 pub closed_condition-closed_expression-requires : goal.closed_condition-closed_expression-requires
 closed_condition-closed_expression-requires t c =
@@ -96,18 +86,18 @@ closed_condition-closed_expression-requires t c =
       rw (c.first-first.ensures, c.second-second.ensures, c.word-word.ensures) at r.ensures.result_value,
       rw (c.first-first.ensures, c.second-second.ensures, c.word-word.ensures) at r.ensures.by_index,
     ) t _ _
-    c.decreases c.in-At.is
+    c.decreases c.in-Continue.is
 
-pub closed_condition-returns-in-At : goal.closed_condition-returns-in-At
+pub closed_condition-returns-in-Continue : goal.closed_condition-returns-in-Continue
 unfolding seen
-closed_condition-returns-in-At t c =
+closed_condition-returns-in-Continue t c =
     let r = c.rest_of_two-rest in
     c.closed_expression.ensures ∙ equal_told _ _ c.loop-term.invariant (rw c.word-word.ensures at (sym c.tag.ensures ∙ c.in-15.is))
     r.result (
       rw (c.first-first.ensures, c.second-second.ensures, c.word-word.ensures) at r.ensures.result_value,
       rw (c.first-first.ensures, c.second-second.ensures, c.word-word.ensures) at r.ensures.by_index,
     ) _
-    c.in-At.is
+    c.in-Continue.is
 
 pub closed_condition-returns-in_default : goal.closed_condition-returns-in_default
 closed_condition-returns-in_default t c = childless _ _ c.loop-term.invariant
@@ -115,32 +105,28 @@ closed_condition-returns-in_default t c = childless _ _ c.loop-term.invariant
 
 -- ---- `closed_expression`: each turn of the loop takes a term apart, and goes on with what is left of it.
 
-pub closed_expression-loop-next-init : goal.closed_expression-loop-next-init
-closed_expression-loop-next-init t c = (omega arith, c.requires.from_bound, refl)
+pub closed_expression-loop-closed-init : goal.closed_expression-loop-closed-init
+closed_expression-loop-closed-init t c = (omega arith, c.requires.from_bound, refl)
 
 pub closed_expression-rest_of-rest-requires : goal.closed_expression-rest_of-rest-requires
-closed_expression-rest_of-rest-requires t c = let l = c.loop-next in (
+closed_expression-rest_of-rest-requires t c = let l = c.loop-closed in (
   here t c.args.from l.term c.decreases l.invariant.0,
   (c.requires.ordered, l.invariant.1),
 )
 
-pub closed_expression-returns-in-Closed : goal.closed_expression-returns-in-Closed
+pub closed_expression-returns-in-Break : goal.closed_expression-returns-in-Break
 unfolding seen
-closed_expression-returns-in-Closed t c = sym (ap (seen c.args.words.now) c.in-Closed.is) ∙ c.rest_of-rest.ensures.result_value ∙ c.loop-next.invariant.2
+closed_expression-returns-in-Break t c = sym (ap (seen c.args.words.now) c.in-Break.is) ∙ c.rest_of-rest.ensures.result_value ∙ c.loop-closed.invariant.2
 
-pub closed_expression-returns-in-Open : goal.closed_expression-returns-in-Open
+pub closed_expression-loop-closed-smaller : goal.closed_expression-loop-closed-smaller
+closed_expression-loop-closed-smaller t c = let q = subst (After _) c.in-Continue.is c.rest_of-rest.ensures.after in omega (arith, q.0, q.1)
+
+pub closed_expression-loop-closed-preserved : goal.closed_expression-loop-closed-preserved
 unfolding seen
-closed_expression-returns-in-Open t c = sym (ap (seen c.args.words.now) c.in-Open.is) ∙ c.rest_of-rest.ensures.result_value ∙ c.loop-next.invariant.2
-
-pub closed_expression-loop-next-smaller : goal.closed_expression-loop-next-smaller
-closed_expression-loop-next-smaller t c = let q = subst (After _) c.in-At.is c.rest_of-rest.ensures.after in omega (arith, q.0, q.1)
-
-pub closed_expression-loop-next-preserved : goal.closed_expression-loop-next-preserved
-unfolding seen
-closed_expression-loop-next-preserved t c =
-    let l = c.loop-next in
+closed_expression-loop-closed-preserved t c =
+    let l = c.loop-closed in
     let r = c.rest_of-rest.ensures in
-    let e = c.in-At.is in
+    let e = c.in-Continue.is in
     let q = subst (After l.term) e r.after in
     (omega (arith, q.0, l.invariant.0), q.1, sym (ap (seen c.args.words.now) e) ∙ r.result_value ∙ l.invariant.2)
 
@@ -241,7 +227,7 @@ rest_of-rest_of_two-requires-in-11 t c =
 
 pub rest_of-returns-in-1 : goal.rest_of-returns-in-1
 rest_of-returns-in-1 t c =
-    let p = variable_left _ c.requires.ordered _ _ (rw c.word-word.ensures at (sym c.tag.ensures ∙ c.in-1.is)) c.told.ensures
+    let p = variable_left _ c.requires.ordered _ _ (rw c.word-word.ensures at (sym c.tag.ensures ∙ c.in-1.is))
     (rw (c.slot_of.ensures, c.word-word.ensures) at c.holds.ensures) in
     record { result_value = p.0; after = p.1 }
 
@@ -282,7 +268,7 @@ rest_of-returns-else-closed_condition-2 t c =
 
 pub rest_of-returns-in-8 : goal.rest_of-returns-in-8
 rest_of-returns-in-8 t c =
-    let p = call_left _ c.requires.ordered _ _ (rw c.word-word.ensures at (sym c.tag.ensures ∙ c.in-8.is)) c.told-in-8.ensures
+    let p = call_left _ c.requires.ordered _ _ (rw c.word-word.ensures at (sym c.tag.ensures ∙ c.in-8.is))
     (rw (c.list_of.ensures, c.word-word.ensures) at c.closed_list.ensures) in
     record { result_value = p.0; after = p.1 }
 

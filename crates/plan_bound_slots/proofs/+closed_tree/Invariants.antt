@@ -14,12 +14,12 @@ invariant-closed_condition-loop-term l = Left l.words (conditions_of l.words (sl
 abbrev pub decreases-closed_condition-loop-term : goal.decreases-closed_condition-loop-term
 decreases-closed_condition-loop-term l = 1024 - l.term
 
-abbrev pub invariant-closed_expression-loop-next : goal.invariant-closed_expression-loop-next
-invariant-closed_expression-loop-next l =
+abbrev pub invariant-closed_expression-loop-closed : goal.invariant-closed_expression-loop-closed
+invariant-closed_expression-loop-closed l =
     (l.from ≤ l.term) × (l.term < 1024) × (closed (slots l.bound) (tree_in l.words l.term) ≡ closed (slots l.outer) (tree_in l.words l.from))
 
-abbrev pub decreases-closed_expression-loop-next : goal.decreases-closed_expression-loop-next
-decreases-closed_expression-loop-next l = 1024 - l.term
+abbrev pub decreases-closed_expression-loop-closed : goal.decreases-closed_expression-loop-closed
+decreases-closed_expression-loop-closed l = 1024 - l.term
 
 abbrev pub invariant-closed_list-loop-from : goal.invariant-closed_list-loop-from
 invariant-closed_list-loop-from l = Left l.words (lists_of l.words (slots l.bound)) l.from l.term

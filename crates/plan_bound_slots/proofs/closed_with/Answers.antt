@@ -8,7 +8,6 @@ use Rattle.format.proofs.BitLaws.{shl_one}
 use Rattle.plan_packed.specs.Slots.{closed}
 use Rattle.plan_packed.specs.Inner.Steps.{slots, tree_in}
 use Rattle.plan_packed.proofs.SlotMasks.{parameters_are}
-use borrow.Author.Rules.{rules}
 use Rattle.plan_bound_slots.proofs.closed_with.Goals as goal
 
 pub overflow_sub-parameters : goal.overflow_sub-parameters

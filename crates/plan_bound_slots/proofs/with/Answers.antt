@@ -1,5 +1,4 @@
 -- `with`: by the slot, 15 or another.
-use borrow.Author.Rules.{rules}
 use borrow.Author.Tests.{eq-eqb, ne_eqb}
 use Rattle.plan_packed.specs.Inner.Steps.{with_slot}
 use Rattle.format.proofs.BitLaws.{shl_one}

@@ -3,7 +3,6 @@ use Rattle.format.proofs.Ranges.{NoneOf}
 use Rattle.plan_cost_walk.proofs.Conditions.{list_first, list_second, list_walked, end_walked}
 use Rattle.plan_cost_walk.proofs.Conditions.{not_call, and_first, and_second, equal_call, not_walked, and_walked, equal_walked}
 use Rattle.plan_cost_walk.proofs.Conditions.{rest_walkedᶜ}
-use Rattle.plan_cost_walk.proofs.Expressions.{Tagged}
 use Rattle.plan_cost_walk.proofs.Expressions.{let_call, if_call, while_test_lem, while_body_lem, call_call, synch_call}
 use Rattle.plan_cost_walk.proofs.Expressions.{new_walked, read_walked, fork_walked, join_walked, notify_walked, notify_all_walked, wait_walked}
 use Rattle.plan_cost_walk.proofs.Expressions.{read_call, fork_call, join_call, wait_call, notify_call, notify_all_call, write_call}

@@ -1,7 +1,6 @@
 -- The walk: each function takes a term apart once, and its children come after it, so that the span of terms from it on falls.
-use Prim.Native.Nat.{ℕ, ◌+◌, ◌-◌, ◌*◌, ◌<◌, min}
+use Prim.Native.Nat.{◌+◌, ◌-◌, ◌*◌, min}
 use Rattle.plan_packed.specs.Inner.Operands.{list_bits}
-use mathlib.Core.List.{List}
 use Rattle.plan_cost_walk.proofs.+cost_walk.Given as goal
 
 abbrev pub decreases-walk_branches : goal.decreases-walk_branches

@@ -1,5 +1,4 @@
 -- `called`: by what is asked.
-use borrow.Author.Rules.{rules}
 use Rattle.plan_cost_walk.proofs.called.Goals as goal
 
 pub returns-then-counting : goal.returns-then-counting

@@ -1,5 +1,5 @@
 -- What the walk comes to, part after part. No reader of the entry's promise needs it. Assumes nothing.
-use Rattle.std.specs.Prelude.{ℕ, suc, ◌+◌, min, max, Bool, true, false, List, get_or}
+use Rattle.std.specs.Prelude.{ℕ, ◌+◌, min, max, Bool, true, false, List, get_or}
 use Rattle.std.specs.Int.Bits.{bit_or}
 use Rattle.plan_packed.specs.Syntax.{Signal, Expression, Condition, Arguments}
 

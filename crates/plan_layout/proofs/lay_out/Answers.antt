@@ -1,17 +1,14 @@
-use Prim.Native.Nat.{ℕ, suc, ◌+◌, ◌-◌, ◌≤◌, ◌<◌}
-use native.Mathlib.Nat.{zero-add}
-use native.Mathlib.Numerals.{add-one}
+use Prim.Native.Nat.{ℕ}
 use native.Mathlib.Omega.{arith}
 use mathlib.Core.Path.{◌≡◌, sym, ap, ◌∙◌}
-use mathlib.Core.List.{List, [], ◌∷◌, ◌++◌}
-use lib.ListN.{length, get_or, drop, length-append}
-use borrow.Author.Rules.{rules}
+use mathlib.Core.List.{[], ◌∷◌, ◌++◌}
+use lib.ListN.{length, get_or, length-append}
 use Rattle.format.specs.Area.{overwrite}
 use Rattle.plan_notation.specs.Tokens.{text_of}
 use Rattle.plan_notation.specs.Layout.{laid_out}
 use Rattle.plan_pen.specs.declared.Gap.{Gap}
 use Rattle.plan_pen.specs.Inner.Pens.{gap_bytes}
-use Rattle.plan_layout.specs.Inner.Marks.{gap_of, text_to, Marked, WroteWithin}
+use Rattle.plan_layout.specs.Inner.Marks.{text_to}
 use Rattle.plan_layout.proofs.MarkLaws.{text_next, text_room}
 use Rattle.plan_layout.proofs.Within.{within_none, within_more, within_as, whole_area}
 use Rattle.plan_layout.proofs.lay_out.Goals as goal
@@ -29,7 +26,7 @@ put_next-at-requires c =
     let e = c.gap_of-gap.ensures in
     let t = c.loop-index-test.true in
     let r = text_room c.args.tokens.now c.args.marks.now l.index t c.requires.rows_value.2 in record {
-      rows_value = (c.requires.rows_value.0, c.requires.rows_value.1 l.index, rw e (c.requires.rows_value.2.few l.index t));
+      token_value = (c.requires.rows_value.1 l.index, rw e (c.requires.rows_value.2.few l.index t));
       token_bound = (
         rw e (omega (arith, r, l.invariant.1.next, c.requires.tokens_in_bounds.1)),
         omega (arith, c.requires.tokens_in_bounds.2, l.invariant.1.kept),
@@ -61,9 +58,6 @@ put_byte-requires c =
       ap length c.requires.rows_value.2.text,
       length-append (text_to c.args.tokens.now c.args.marks.now (length c.args.tokens.now)) (10 ∷ []),
     )
-
-pub shape_of-area : goal.shape_of-area
-shape_of-area c = c.put_byte.ensures.kept ∙ c.loop-index.invariant.1.kept
 
 pub returns : goal.returns
 unfolding overwrite

@@ -1,12 +1,9 @@
 -- `mark` meets its contract. Assumes nothing.
-use Prim.Native.Nat.{ℕ, ◌+◌, ◌%◌, ◌≤◌}
+use Prim.Native.Nat.{ℕ, ◌+◌, ◌%◌}
 use native.Mathlib.Omega.{arith}
 use mathlib.Core.Path.{◌≡◌, sym, ap₂}
 use mathlib.Core.Bool.{Bool}
-use lib.Dec.{leb}
 use borrow.Author.Tests.{le-leb, lt-leb}
-use Rattle.plan_pen.specs.declared.Gap.{Gap}
-use borrow.Author.Rules.{rules}
 use Rattle.plan_layout.proofs.mark.Goals as goal
 
 pub returns-then-gap : goal.returns-then-gap

@@ -1,11 +1,9 @@
-use Prim.Native.Nat.{ℕ, ◌+◌, ◌-◌, ◌*◌, ◌%◌, ◌≤◌, ◌<◌}
+use Prim.Native.Nat.{ℕ, ◌+◌, ◌≤◌, ◌<◌}
 use native.Mathlib.Nat.{zero-add}
 use native.Mathlib.Omega.{arith}
 use mathlib.Core.Path.{◌≡◌, refl, sym, ap, ◌∙◌}
 use mathlib.Core.List.{List, [], ◌∷◌, ◌++◌}
-use lib.ListN.{length, length-set, get_or, drop}
-use borrow.Author.Rules.{rules}
-use Rattle.plan_notation.specs.Tokens.{text_end}
+use lib.ListN.{length, length-set, drop}
 use Rattle.plan_notation.specs.Layout.{Pen, laid_from, laid_out}
 use Rattle.plan_notation.proofs.Widths.{few_bytes}
 use Rattle.plan_pen.specs.declared.Gap.{Gap}
@@ -14,17 +12,16 @@ use Rattle.plan_pen.proofs.PenLaws.{next_column, next_depth, next_last}
 use Rattle.plan_layout.specs.Inner.Marks.{text_to}
 use Rattle.plan_layout.proofs.LaidLaws.{gap_short, laid_length, laid_on, laid_none}
 use Rattle.plan_layout.proofs.MarkLaws.{text_more, few_more}
-use Rattle.plan_layout.proofs.measure.Invariants.{Marking}
 use Rattle.plan_layout.proofs.measure.Goals as goal
-use Rattle.plan_layout.proofs.measure.Goals.{After-length_of}
+use Rattle.plan_layout.proofs.measure.Goals.{After-length}
 
 -- a token takes at most 50 bytes
-few_of : (c : After-length_of) → c.length_of.result + c.width-width.result ≤ 50
+few_of : (c : After-length) → c.length.result + c.width-width.result ≤ 50
 few_of c =
     omega (
       arith,
-      c.length_of.ensures,
-      gap_short c.gap_before-gap.result c.gap_before-gap.ensures.few,
+      c.length.ensures,
+      gap_short c.pass-gap.result c.pass-gap.ensures.gap.few,
       c.width-width.ensures,
       few_bytes _ (c.requires.rows_value.2
           c.loop-index.index),
@@ -44,19 +41,20 @@ loop-index-init c =
     )
 
 pub width-width-requires : goal.width-width-requires
-width-width-requires c = record {
-  rows_value = c.requires.rows_value.0;
-  token_lt_text_end = c.requires.rows_value.2
-      c.loop-index.index;
-}
+width-width-requires c = c.requires.rows_value.2 c.loop-index.index
 
-pub gap_before-gap-requires : goal.gap_before-gap-requires
-gap_before-gap-requires c =
+pub pass-gap-requires : goal.pass-gap-requires
+pass-gap-requires c =
     let l = c.loop-index in
-    let k = c.requires.rows_value.2 l.index in record { looks_value = (c.requires.rows_value.1, k, l.invariant.6); width_value = (c.width-width.ensures, omega (arith, c.width-width.ensures, few_bytes _ k), l.invariant.2) }
+    let w = c.width-width.ensures in
+    let k = c.requires.rows_value.2 l.index in record {
+      token_value = (k, l.invariant.6);
+      width_value = (w, omega (arith, w, few_bytes _ k));
+      place = (l.invariant.2, omega (arith, l.invariant.3, c.loop-index-test.true, c.requires.tokens_len_bound.0));
+    }
 
 pub mark-requires : goal.mark-requires
-mark-requires c = c.gap_before-gap.ensures.few
+mark-requires c = c.pass-gap.ensures.gap.few
 
 pub offset_bounds-marks-index : goal.offset_bounds-marks-index
 offset_bounds-marks-index c = record {
@@ -75,8 +73,8 @@ bounds-marks-index c = let l = c.loop-index in omega (
   c.requires.tokens_len_bound.1,
 )
 
-pub length_of-requires : goal.length_of-requires
-length_of-requires c = c.gap_before-gap.ensures.few
+pub length-requires : goal.length-requires
+length-requires c = c.pass-gap.ensures.gap.few
 
 pub overflow_add-total : goal.overflow_add-total
 overflow_add-total c = record { fits = omega (arith, few_of c) }
@@ -87,51 +85,34 @@ overflow_add-total-in-loop-index c = let l = c.loop-index in record {
       (arith, few_of c, l.invariant.0, l.invariant.1, c.requires.tokens_len_bound.0);
 }
 
-pub after-pen-requires : goal.after-pen-requires
-after-pen-requires c =
-    let l = c.loop-index in
-    let k = c.requires.rows_value.2 l.index in record {
-      looks_value = (c.requires.rows_value.1, k);
-      width_value = (
-        c.width-width.ensures,
-        omega (arith, c.width-width.ensures, few_bytes _ k),
-        l.invariant.2,
-        omega (arith, l.invariant.3, c.loop-index-test.true, c.requires.tokens_len_bound.0),
-      );
-      parts = c.gap_before-gap.ensures;
-    }
-
 pub loop-index-preserved : goal.loop-index-preserved
 loop-index-preserved c =
     let l = c.loop-index in
     let t = c.loop-index-test.true in
     let ts = c.args.tokens.now in
-    let g = c.gap_before-gap in
+    let g = c.pass-gap in
     let m = c.mark in
-    let e = c.after-pen.ensures in
-    let n = laid_length ts l.index (pen_of l.pen) t g.result g.ensures (pen_of c.after-pen.result) e in
+    let e = c.pass-gap.ensures.after in
+    let n = laid_length ts l.index (pen_of l.pen) t g.result g.ensures.gap (pen_of c.pass-gap.new.self) e in
     let o = l.invariant.5 in
     let inside : l.index < length l.marks = omega (arith, t, o.kept, c.requires.tokens_len_bound.1) in (
       omega (arith, t),
-      omega (arith, few_of (goal.at.loop-index-preserved c).After-length_of, l.invariant.1),
+      omega (arith, few_of (goal.at.loop-index-preserved c).After-length, l.invariant.1),
       next_column _ _ _ e (c.requires.rows_value.2 l.index),
       omega (arith, l.invariant.3, next_depth _ _ _ e),
-      omega (arith, l.invariant.4, n, c.length_of.ensures, c.width-width.ensures),
+      omega (arith, l.invariant.4, n, c.length.ensures, c.width-width.ensures),
       record {
         kept = length-set l.marks l.index m.result ∙ o.kept;
-        text = laid_on ts l.index (pen_of l.pen) t g.result g.ensures (pen_of c.after-pen.result) e _ (text_to ts l.marks l.index) o.text
-            ∙ ap (λ (xs : List ℕ). xs ++ laid_from (pen_of c.after-pen.result) (drop (l.index + 1) ts))
+        text = laid_on ts l.index (pen_of l.pen) t g.result g.ensures.gap (pen_of c.pass-gap.new.self) e _ (text_to ts l.marks l.index) o.text
+            ∙ ap (λ (xs : List ℕ). xs ++ laid_from (pen_of c.pass-gap.new.self) (drop (l.index + 1) ts))
             (sym (text_more ts l.marks l.index m.result g.result inside m.ensures));
-        few = few_more l.marks l.index m.result inside (rw (ap (λ (x : Gap). x.spaces) m.ensures) g.ensures.few) o.few;
+        few = few_more l.marks l.index m.result inside (rw (ap (λ (x : Gap). x.spaces) m.ensures) g.ensures.gap.few) o.few;
       },
       next_last _ _ _ e (c.requires.rows_value.2 l.index),
     )
 
 pub overflow_add-result : goal.overflow_add-result
 overflow_add-result c = let l = c.loop-index in record { fits = omega (arith, l.invariant.0, l.invariant.1, c.requires.tokens_len_bound.0) }
-
-pub shape_of-marks : goal.shape_of-marks
-shape_of-marks c = c.loop-index.invariant.5.kept
 
 pub returns : goal.returns
 returns c =

@@ -1,21 +1,13 @@
 -- `measure` meets its contract. The invariant: the total and the length of the rest are the length of the text, which begins with the text of the tokens
 -- that are marked; a token has at most 50 bytes. Assumes nothing.
-use Prim.Native.Nat.{ℕ, ◌+◌, ◌-◌, ◌*◌, ◌%◌, ◌≤◌, ◌<◌}
-use native.Mathlib.Nat.{zero-add}
-use native.Mathlib.Omega.{arith}
-use mathlib.Core.Path.{◌≡◌, refl, sym, ap, ◌∙◌}
-use mathlib.Core.List.{List, [], ◌∷◌, ◌++◌}
-use lib.ListN.{length, length-set, get_or, drop}
-use borrow.Author.Rules.{rules}
+use Prim.Native.Nat.{ℕ, ◌+◌, ◌*◌, ◌%◌, ◌≤◌, ◌<◌}
+use mathlib.Core.Path.{◌≡◌}
+use mathlib.Core.List.{List, ◌++◌}
+use lib.ListN.{length, get_or, drop}
 use Rattle.plan_notation.specs.Tokens.{text_end}
 use Rattle.plan_notation.specs.Layout.{Pen, laid_from, laid_out}
-use Rattle.plan_notation.proofs.Widths.{few_bytes}
-use Rattle.plan_pen.specs.declared.Gap.{Gap}
 use Rattle.plan_pen.specs.Inner.Pens.{pen_of}
-use Rattle.plan_pen.proofs.PenLaws.{next_column, next_depth, next_last}
 use Rattle.plan_layout.specs.Inner.Marks.{text_to}
-use Rattle.plan_layout.proofs.LaidLaws.{gap_short, laid_length, laid_on, laid_none}
-use Rattle.plan_layout.proofs.MarkLaws.{text_more, few_more}
 use Rattle.plan_layout.proofs.measure.Given as goal
 
 -- the first tokens are marked, and what is left of the text is that of the others
@@ -33,6 +25,3 @@ invariant-loop-index l =
     × (l.total + length (laid_from (pen_of l.pen) (drop l.index l.tokens)) ≡ length (laid_out l.tokens))
     × Marking l.tokens l.marks (pen_of l.pen) l.index (length l.initial.marks)
     × (l.pen.last ≤ text_end)
-
-abbrev pub decreases-loop-index : goal.decreases-loop-index
-decreases-loop-index l = length l.tokens - l.index

@@ -1,7 +1,7 @@
 -- `put_gap` meets its contract. Assumes nothing.
 use Prim.Native.Nat.{ℕ}
 use native.Mathlib.Omega.{arith}
-use mathlib.Core.Path.{sym, ap, ◌∙◌}
+use mathlib.Core.Path.{sym, ap}
 use lib.ListN.{length, length-replicate}
 use Rattle.text.proofs.Added.{added_more, added_as}
 use Rattle.plan_layout.proofs.LaidLaws.{gap_feed, gap_plain}
@@ -23,9 +23,6 @@ put_spaces-requires c =
       length-replicate {A = ℕ} c.args.gap.spaces 32,
     )
 
-pub shape_of-area-then-gap : goal.shape_of-area-then-gap
-shape_of-area-then-gap c = c.put_spaces.ensures.kept ∙ c.put_byte-next.ensures.kept
-
 pub returns-then-gap : goal.returns-then-gap
 returns-then-gap c =
     added_as (sym (gap_feed c.args.gap
@@ -35,9 +32,6 @@ returns-then-gap c =
 pub put_spaces-requires-2 : goal.put_spaces-requires-2
 put_spaces-requires-2 c =
     omega (arith, c.requires, ap length (gap_plain c.args.gap c.if-gap.false), length-replicate {A = ℕ} c.args.gap.spaces 32)
-
-pub shape_of-area : goal.shape_of-area
-shape_of-area c = c.put_spaces-2.ensures.kept
 
 pub returns : goal.returns
 returns c =

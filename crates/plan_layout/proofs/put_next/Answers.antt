@@ -1,13 +1,10 @@
 -- `put_next` meets its contract. Assumes nothing.
 use native.Mathlib.Omega.{arith}
-use mathlib.Core.Path.{sym, ap, ◌∙◌}
 use Rattle.text.proofs.Added.{added_more}
-use Rattle.plan_notation.proofs.Widths.{few_bytes}
 use lib.ListN.{length-append}
 use Rattle.plan_notation.specs.Tokens.{text_of}
 use Rattle.plan_pen.specs.Inner.Pens.{gap_bytes}
 use Rattle.plan_layout.proofs.Within.{within_exact, within_later}
-use borrow.Author.Rules.{rules}
 use Rattle.plan_layout.proofs.put_next.Goals as goal
 
 pub put_gap-next-requires : goal.put_gap-next-requires
@@ -15,18 +12,11 @@ put_gap-next-requires c = omega (arith, c.requires.token_bound.0, c.requires.tok
 
 pub put_token-requires : goal.put_token-requires
 put_token-requires c =
-    let w = c.put_gap-next.ensures in record {
-      rows_value = c.requires.rows_value.0;
-      token_lt_text_end = (
-        c.requires.rows_value.1,
-        c.width-width.ensures,
-        omega
-            (arith, c.requires.token_bound.0, c.requires.token_bound.1, w.next, w.kept, c.width-width.ensures),
-      );
-    }
-
-pub shape_of-area-then-total-at-lt50 : goal.shape_of-area-then-total-at-lt50
-shape_of-area-then-total-at-lt50 c = c.put_token.ensures.kept ∙ c.put_gap-next.ensures.kept
+    let w = c.put_gap-next.ensures in (
+      c.requires.token_value.0,
+      c.width-width.ensures,
+      omega (arith, c.requires.token_bound.0, c.requires.token_bound.1, w.next, w.kept, c.width-width.ensures),
+    )
 
 pub returns-then-total-at-lt50 : goal.returns-then-total-at-lt50
 returns-then-total-at-lt50 c =
@@ -34,10 +24,12 @@ returns-then-total-at-lt50 c =
     within_exact c.args.total (omega (arith, w.next, c.requires.token_bound.0, length-append (gap_bytes c.args.gap) (text_of c.args.token))) w
 
 pub put_wide-requires : goal.put_wide-requires
-put_wide-requires c = record { rows_value = c.requires.rows_value.0; token_lt_text_end = (c.requires.rows_value.1, c.width-width.ensures, c.requires.rows_value.2, omega (arith, c.requires.token_bound.1, c.requires.token_bound.0, c.if-total-at-lt50.false)) }
-
-pub shape_of-area : goal.shape_of-area
-shape_of-area c = c.put_wide.ensures.kept
+put_wide-requires c = (
+  c.requires.token_value.0,
+  c.width-width.ensures,
+  c.requires.token_value.1,
+  omega (arith, c.requires.token_bound.1, c.requires.token_bound.0, c.if-total-at-lt50.false),
+)
 
 pub returns : goal.returns
 returns c =

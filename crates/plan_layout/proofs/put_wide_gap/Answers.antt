@@ -1,8 +1,6 @@
 -- `put_wide_gap` meets its contract. Assumes nothing.
 use native.Mathlib.Omega.{arith}
-use mathlib.Core.Path.{◌∙◌}
 use Rattle.plan_layout.proofs.Within.{wide_feed, wide_plain}
-use borrow.Author.Rules.{rules}
 use Rattle.plan_layout.proofs.put_wide_gap.Goals as goal
 
 pub put_byte-next-requires : goal.put_byte-next-requires
@@ -12,9 +10,6 @@ pub put_spaces-requires : goal.put_spaces-requires
 put_spaces-requires c = let w = c.put_byte-next.ensures in omega
     (arith, c.requires.1, w.next, w.kept)
 
-pub shape_of-area-then-gap : goal.shape_of-area-then-gap
-shape_of-area-then-gap c = c.put_spaces.ensures.kept ∙ c.put_byte-next.ensures.kept
-
 pub returns-then-gap : goal.returns-then-gap
 returns-then-gap c =
     wide_feed c.args.gap c.if-gap.true c.requires.0 (omega (arith, c.requires.1))
@@ -22,9 +17,6 @@ returns-then-gap c =
 
 pub put_spaces-requires-2 : goal.put_spaces-requires-2
 put_spaces-requires-2 c = omega (arith, c.requires.1)
-
-pub shape_of-area : goal.shape_of-area
-shape_of-area c = c.put_spaces-2.ensures.kept
 
 pub returns : goal.returns
 returns c = wide_plain c.args.gap

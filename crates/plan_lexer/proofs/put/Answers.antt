@@ -1,5 +1,4 @@
 -- `put` meets its contract: no room, or one token more. Assumes nothing.
-use borrow.Author.Rules.{rules}
 use Rattle.plan_lexer.proofs.KeptLaws.{adds_full, adds_one}
 use Rattle.plan_lexer.proofs.put.Goals as goal
 

@@ -1,7 +1,6 @@
 -- `wrong_list`: a list counted to nine is as long as the parameters, or not.
 use mathlib.Core.Path.{◌≡◌}
 use native.Mathlib.Omega.{arith}
-use borrow.Author.Rules.{rules}
 use lib.ListN.{get_or}
 use Rattle.plan_packed.specs.Format.{tag_at}
 use Rattle.plan_packed.specs.Inner.Steps.{word_at, tag_in}

@@ -1,5 +1,4 @@
 -- `name`: the list of one name.
-use borrow.Author.Rules.{rules}
 use Rattle.plan_packed.specs.Inner.Steps.{lower_all, count_all}
 use Rattle.plan_naming.proofs.name.Goals as goal
 

@@ -1,10 +1,6 @@
 use mathlib.Core.Path.{◌≡◌}
-use borrow.Author.Rules.{rules}
 use native.Mathlib.Omega.{arith}
-use Prim.Native.Nat.{◌-◌, ◌≤◌}
 use native.Mathlib.Numerals.{add-one}
-use Rattle.format.specs.Inner.Lowest.{Lowest}
-use Rattle.plan_packed.specs.Inner.Steps.{Counted, faults, all_times}
 use Rattle.plan_packed.proofs.SortLaws.{no_faults, one_term, all_faults}
 use Rattle.plan_packed.proofs.NameLaws.{no_terms, term_step}
 use Rattle.plan_packed.proofs.RowLaws.{tagged}
@@ -20,7 +16,7 @@ loop-term-init c =
     let r = c.requires.right in
     let d = c.requires.loaded in
     let e = r.headed.sized.procedures_are in
-    (search rules, no_faults b a.procedures a.count _ e c.name_roots-best.ensures.lowest, no_terms b a.procedures _ e c.name_roots-best.ensures.counted)
+    (no_faults b a.procedures a.count _ e c.name_roots-best.ensures.lowest, no_terms b a.procedures _ e c.name_roots-best.ensures.counted)
 
 pub name_children-least-requires : goal.name_children-least-requires
 name_children-least-requires c =
@@ -47,11 +43,10 @@ loop-term-preserved c =
     let h = c.loop-term-test.true in
     let right = r.terms_right l.term h in
     let k = c.name_children-least in (
-      search rules,
       rw add-one
           (one_term b a.procedures l.term a.count a.words.now l.best k.result c.lower_call-best.result d r.headed.sized right h
-          k.ensures.value c.lower_call-best.ensures l.invariant.1),
-      rw add-one (term_step b a.procedures a.count l.term a.words.now l.times _ d r.headed right h k.ensures.times_after l.invariant.2),
+          k.ensures.value c.lower_call-best.ensures l.invariant.0),
+      rw add-one (term_step b a.procedures a.count l.term a.words.now l.times _ d r.headed right h k.ensures.times_after l.invariant.1),
     )
 
 pub returns : goal.returns
@@ -61,4 +56,4 @@ returns c =
     let r = c.requires.right in
     let d = c.requires.loaded in
     let l = c.loop-term in
-    let e : l.term ≡ a.count = omega arith in record { lowest = all_faults b a.count l.best r.headed.sized.terms_are (rw e at l.invariant.1); counted = rw e at l.invariant.2 }
+    let e : l.term ≡ a.count = omega arith in record { lowest = all_faults b a.count l.best r.headed.sized.terms_are (rw e at l.invariant.0); counted = rw e at l.invariant.1 }

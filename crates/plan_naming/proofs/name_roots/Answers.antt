@@ -1,10 +1,6 @@
 use mathlib.Core.Path.{◌≡◌}
-use borrow.Author.Rules.{rules}
 use native.Mathlib.Omega.{arith}
-use Prim.Native.Nat.{◌-◌, ◌≤◌}
 use native.Mathlib.Numerals.{add-one}
-use Rattle.format.specs.Inner.Lowest.{Lowest}
-use Rattle.plan_packed.specs.Inner.Steps.{Counted, misplaced_root, root_times}
 use Rattle.plan_packed.proofs.Reading.{procedures_lt}
 use Rattle.plan_packed.proofs.Shown.{root_below}
 use Rattle.plan_packed.proofs.SortLaws.{no_root, one_root}
@@ -13,7 +9,7 @@ use Rattle.plan_packed.proofs.RowLaws.{tagged}
 use Rattle.plan_naming.proofs.name_roots.Goals as goal
 
 pub loop-procedure-init : goal.loop-procedure-init
-loop-procedure-init c = (search rules, no_root c.args.plan.now _, rw c.requires.times_value (no_names c.args.plan.now))
+loop-procedure-init c = (no_root c.args.plan.now _, rw c.requires.times_value (no_names c.args.plan.now))
 
 pub root-root-requires : goal.root-root-requires
 root-root-requires c =
@@ -44,14 +40,13 @@ loop-procedure-preserved c =
     let l = c.loop-procedure in
     let h = root_below b a.procedures a.count l.procedure z.right.headed c.loop-procedure-test.true in
     let e = c.root-root.ensures in (
-      search rules,
       rw add-one
-          (one_root b l.procedure a.count a.words.now l.best c.root-root.result _ z.loaded e h c.name-best.ensures.value l.invariant.1),
-      rw add-one (root_step b l.procedure c.root-root.result l.times _ e (omega (arith, h)) c.name-best.ensures.times_after l.invariant.2),
+          (one_root b l.procedure a.count a.words.now l.best c.root-root.result _ z.loaded e h c.name-best.ensures.value l.invariant.0),
+      rw add-one (root_step b l.procedure c.root-root.result l.times _ e (omega (arith, h)) c.name-best.ensures.times_after l.invariant.1),
     )
 
 pub returns : goal.returns
 returns c =
     let a = c.args in
     let l = c.loop-procedure in
-    let e : l.procedure ≡ a.procedures = omega arith in record { lowest = rw e at l.invariant.1; counted = rw e at l.invariant.2 }
+    let e : l.procedure ≡ a.procedures = omega arith in record { lowest = rw e at l.invariant.0; counted = rw e at l.invariant.1 }

@@ -3,7 +3,6 @@ use mathlib.Core.Path.{◌≡◌, refl}
 use mathlib.Core.Bool.{Bool}
 use Prim.Native.Nat.{ℕ}
 use native.Mathlib.Omega.{arith}
-use borrow.Author.Rules.{rules}
 use Rattle.plan_packed.specs.Inner.Rows.{bits_to, wrong_other}
 use Rattle.plan_operand_tests.proofs.wrong_other.Goals as goal
 use Rattle.plan_operand_tests.proofs.wrong_other.Goals.{After-bits_to-bits}

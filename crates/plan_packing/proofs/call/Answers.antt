@@ -1,6 +1,5 @@
 -- `call` meets its contract. Assumes nothing.
 use Rattle.plan_packing.proofs.PackedWords.{call_word_lem}
-use borrow.Author.Rules.{rules}
 use Rattle.plan_packing.proofs.call.Goals as goal
 
 pub returns : goal.returns

@@ -1,7 +1,6 @@
 -- `leaf` meets its contract. Assumes nothing.
 use mathlib.Core.Path.{sym, ◌∙◌}
 use Rattle.plan_packing.proofs.PackedWords.{variable_is, new_is, leaf_null}
-use borrow.Author.Rules.{rules}
 use Rattle.plan_packing.proofs.leaf.Goals as goal
 
 pub returns-in-1 : goal.returns-in-1

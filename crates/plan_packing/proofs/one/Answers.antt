@@ -1,7 +1,6 @@
 -- `one` meets its contract. Assumes nothing.
 use mathlib.Core.Path.{sym, ◌∙◌}
 use Rattle.plan_packing.proofs.PackedWords.{read_is, one_other}
-use borrow.Author.Rules.{rules}
 use Rattle.plan_packing.proofs.one.Goals as goal
 
 pub returns-then-tag-eq-READ : goal.returns-then-tag-eq-READ

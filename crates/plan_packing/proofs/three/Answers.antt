@@ -1,6 +1,5 @@
 -- `three` meets its contract. Assumes nothing.
 use Rattle.plan_packing.proofs.PackedWords.{if_word_lem}
-use borrow.Author.Rules.{rules}
 use Rattle.plan_packing.proofs.three.Goals as goal
 
 pub returns : goal.returns

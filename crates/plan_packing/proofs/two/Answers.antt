@@ -1,7 +1,6 @@
 -- `two` meets its contract. Assumes nothing.
 use mathlib.Core.Path.{sym, ◌∙◌}
 use Rattle.plan_packing.proofs.PackedWords.{write_is, let_is, two_other}
-use borrow.Author.Rules.{rules}
 use Rattle.plan_packing.proofs.two.Goals as goal
 
 pub returns-in-4 : goal.returns-in-4

@@ -5,5 +5,5 @@ use Rattle.plan_parser.proofs.is_full.Goals as goal
 pub returns-then-left-eq0 : goal.returns-then-left-eq0
 returns-then-left-eq0 c = rw (eq-eqb _ 0 c.if-left-eq0.true)
 
-pub returns : goal.returns
-returns c = rw (ne_eqb _ 0 c.if-left-eq0.false)
+pub returns-else-left-eq0 : goal.returns-else-left-eq0
+returns-else-left-eq0 c = rw (ne_eqb _ 0 c.if-left-eq0.false)

@@ -1,13 +1,10 @@
 -- `procedure` meets its contract: the loop over the goals of a procedure, and the number 0. Assumes nothing.
 use Rattle.plan_parser.proofs.RunLaws.{starts, started}
 use Rattle.plan_parser.proofs.TurnLaws.{resized}
-use Rattle.plan_parser.specs.Inner.Reading.{Sized}
 use native.Mathlib.Omega.{arith}
 use mathlib.Core.Path.{refl, ◌∙◌}
-use lib.ListN.{set, length-set, get_or}
+use lib.ListN.{set, length-set}
 use lib.Seq.{get_or-set_same}
-use mathlib.Core.List.{List}
-use Prim.Native.Nat.{ℕ}
 use borrow.Author.Rules.{rules}
 use Rattle.plan_parser.proofs.procedure.Goals as goal
 

@@ -1,10 +1,7 @@
 -- `run` meets its contract. Assumes nothing.
-use Rattle.plan_parser.proofs.RunLaws.{Before, begins, last_ends, run_ends, run_many, run_full, run_short, none_left, going, run_on, run_stops}
+use Rattle.plan_parser.proofs.RunLaws.{Before}
 use Prim.Native.Nat.{◌+◌, ◌-◌, ◌*◌}
-use native.Mathlib.Omega.{arith}
-use mathlib.Core.Path.{sym, ◌∙◌}
 use lib.ListN.{length}
-use borrow.Author.Rules.{rules}
 use Rattle.plan_parser.proofs.run.Given as goal
 
 abbrev pub invariant-loop-standing : goal.invariant-loop-standing

@@ -1,5 +1,5 @@
 -- Where reading stands, and what comes of it, for inner contracts: no reader of an entry's promise needs them. Assumes nothing.
-use Rattle.std.specs.Prelude.{ℕ, ◌+◌, ◌-◌, ◌*◌, ◌≤◌, ◌<◌, ◌≡◌, cond, List, ltb, length, get_or, drop}
+use Rattle.std.specs.Prelude.{ℕ, ◌+◌, ◌-◌, ◌*◌, ◌≤◌, ◌<◌, ◌≡◌, cond, List, Result, Ok, Err, ltb, length, get_or, drop}
 use Rattle.plan_packed.specs.Inner.Steps.{Ordered, tree_in}
 use Rattle.plan_parsing.specs.Goals.{Value, number_in, expression_in, value_at}
 use Rattle.plan_parsing.specs.Parser as definition
@@ -10,8 +10,7 @@ use Rattle.plan_parser_goals.specs.Inner.Moves.{Sight, Move}
 use Rattle.plan_parser.specs.Inner.Stacks.{Stacked, Entries, Put, Looks}
 use Rattle.plan_parser.specs.Inner.Making.{Makes}
 use Rattle.plan_parser.specs.declared.turns.Standing.{Standing}
-use Rattle.plan_parser.specs.declared.turns.Turn.{Turn}
-use Rattle.plan_parser.specs.declared.turns.Turn.TheVariants.{On, Stop}
+use Rattle.plan_parser.specs.declared.turns.Halt.{Halt}
 use Rattle.plan_parser.specs.declared.Parsed.{Parsed}
 use Rattle.plan_parser.specs.declared.Parsed.TheVariants.{Read, Stopped, Full}
 
@@ -89,11 +88,14 @@ pub record WentWith (words values : List ℕ) (s : Standing) (k : ℕ) (words' v
 
 -- ---- a turn
 
+abbrev pub Turn : Type 0
+Turn = Result Standing Halt
+
 -- in the definition's words
 unfoldable pub shown : List ℕ → List ℕ → List ℕ → List ℕ → Turn → Step
 unfolding goals_of values_of reason_of
-shown tokens goals values words (On s) = go (goals_of goals s.goals) (values_of words values s.values) (terms_left words s.left) (drop s.at tokens)
-shown tokens goals values words (Stop reason at) = stop (reason_of reason) (drop at tokens)
+shown tokens goals values words (Ok s) = go (goals_of goals s.goals) (values_of words values s.values) (terms_left words s.left) (drop s.at tokens)
+shown tokens goals values words (Err z) = stop (reason_of z.reason) (drop z.at tokens)
 
 -- what is left to do becomes less
 pub record Nearer (tokens goals values words : List ℕ) (s s' : Standing) : Type 0 where
@@ -102,8 +104,8 @@ pub record Nearer (tokens goals values words : List ℕ) (s s' : Standing) : Typ
   pub fewer : s'.left ≤ s.left
 
 abbrev pub Next : List ℕ → List ℕ → List ℕ → List ℕ → Standing → Turn → Type 0
-Next tokens goals values words s (On s') = Nearer tokens goals values words s s'
-Next tokens goals values words s (Stop reason at) = Unit {0}
+Next tokens goals values words s (Ok s') = Nearer tokens goals values words s s'
+Next tokens goals values words s (Err z) = Unit {0}
 
 -- the terms from left on stay, and children come after their parents
 pub record Kept (left : ℕ) (words words' : List ℕ) : Type 0 where

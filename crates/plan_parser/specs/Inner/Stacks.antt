@@ -1,7 +1,7 @@
 -- The arrays of goals and of values, for inner contracts: no reader of an entry's promise needs them. Assumes nothing.
 use Rattle.std.specs.Prelude.{ℕ, ◌+◌, ◌-◌, ◌*◌, ◌≤◌, ◌<◌, ◌≡◌, cond, List, eqb, ltb, length, get_or, drop}
 use Rattle.plan_parsing.specs.Goals.{Goal}
-use Rattle.plan_parser_goals.specs.Inner.Encoded.{goals_of, values_of, stacked, unpacked}
+use Rattle.plan_parser_goals.specs.Inner.Encoded.{goals_of, values_of}
 use Rattle.plan_parser_goals.specs.Inner.Moves.{Seen, pushed}
 use Rattle.plan_parser_goals.specs.Inner.Moves.{Sight}
 

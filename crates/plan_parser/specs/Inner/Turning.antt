@@ -1,13 +1,11 @@
 -- The turn of a goal by its number, for inner contracts: no reader of an entry's promise needs it. Assumes nothing.
-use Rattle.std.specs.Prelude.{ℕ, ◌+◌, ◌-◌, ◌%◌, ◌≤◌, ◌<◌, ◌≡◌, Bool, true, false, cond, List, ltb, length, get_or}
+use Rattle.std.specs.Prelude.{ℕ, ◌+◌, ◌-◌, ◌%◌, ◌≤◌, ◌<◌, ◌≡◌, Bool, true, false, cond, List, Ok, Err, ltb, length, get_or}
 use Rattle.plan_parser_goals.specs.Inner.Encoded.{goal_of, value_of, value_sort}
 use Rattle.plan_parser_goals.specs.Inner.Moves.{Calls, Ends}
 use Rattle.plan_parser_goals.specs.Inner.Moves.{Sight, Move}
 use Rattle.plan_parser.specs.Inner.Stacks.{last_of}
-use Rattle.plan_parser.specs.Inner.Reading.{State, Going, WentWith, Turned}
+use Rattle.plan_parser.specs.Inner.Reading.{State, Going, WentWith, Turn, Turned}
 use Rattle.plan_parser.specs.declared.turns.Standing.{Standing}
-use Rattle.plan_parser.specs.declared.turns.Turn.{Turn}
-use Rattle.plan_parser.specs.declared.turns.Turn.TheVariants.{On, Stop}
 
 -- the number of the value that was read last; a term is taken for 0
 abbrev pub number_of : ℕ → ℕ
@@ -54,8 +52,8 @@ TurnedAny tokens counts goals values goals' values' s r =
 
 -- what comes of a goal that makes a term, where none may be left
 abbrev pub MadeOr : List ℕ → List ℕ → Standing → ℕ → List ℕ → List ℕ → Turn → Type 0
-MadeOr words values s k words' values' (On s') = (0 < s.left) × WentWith words values s k words' values' s'
-MadeOr words values s k words' values' (Stop reason at) = (s.left ≡ 0) × (reason ≡ 1000) × (at ≡ s.at) × (words' ≡ words) × (values' ≡ values)
+MadeOr words values s k words' values' (Ok s') = (0 < s.left) × WentWith words values s k words' values' s'
+MadeOr words values s k words' values' (Err z) = (s.left ≡ 0) × (z ≡ record { reason = 1000; at = s.at }) × (words' ≡ words) × (values' ≡ values)
 
 -- nothing follows a value: a move that ends, whatever else there is
 abbrev pub Ending : List ℕ → List ℕ → Standing → ℕ → ℕ → List ℕ → List ℕ → Turn → Type 0

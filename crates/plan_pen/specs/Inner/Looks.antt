@@ -1,6 +1,6 @@
 -- What each token says of the gap behind it and of the one before it, as sets of bits, for inner contracts: no reader of an entry's promise needs it. Assumes
 -- nothing.
-use Rattle.std.specs.Prelude.{ℕ, zero, suc, ◌+◌, ◌*◌, Bool, cond, ◌||◌, List, [], ◌∷◌, eqb, ltb}
+use Rattle.std.specs.Prelude.{ℕ, zero, suc, ◌+◌, Bool, cond, ◌||◌, List, [], ◌∷◌, eqb, ltb}
 use Rattle.plan_notation.specs.Tokens.{volatile_word, procedure_word, in_word, else_word, do_word, new_word, let_word, if_word, opening, closing, comma, dot, text_end}
 use Rattle.plan_notation.specs.Layout.{begins_expression}
 

@@ -6,7 +6,6 @@ use mathlib.Core.List.{List, [], ◌∷◌}
 use lib.ListN.{length, get_or}
 use Rattle.plan_parsing.specs.Parser.{ahead}
 use Rattle.plan_reader.proofs.VolatileFields.{beyond}
-use borrow.Author.Rules.{rules}
 use Rattle.plan_reader.proofs.ahead.Goals as goal
 
 -- within the tokens it is the same whatever stands beyond

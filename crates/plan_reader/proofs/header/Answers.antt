@@ -2,7 +2,6 @@
 use native.Mathlib.Omega.{arith}
 use mathlib.Core.Path.{sym, ◌∙◌}
 use Rattle.plan_reader.proofs.Headings.{present, headed_without, headed_with, headed_wrong}
-use borrow.Author.Rules.{rules}
 use Rattle.plan_reader.proofs.header.Goals as goal
 
 pub volatiles-requires : goal.volatiles-requires

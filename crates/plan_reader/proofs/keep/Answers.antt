@@ -22,6 +22,9 @@ returns-then-ahead-eq-END c =
         },
         sym c.ahead.ensures.0 ∙ c.if-ahead-eq-END.true,
         refl,
+        refl,
+        search rules,
+        refl,
       );
     }
 
@@ -35,7 +38,6 @@ returns c =
           counts_are = refl;
         },
         (λ e. c.if-ahead-eq-END.false (c.ahead.ensures.0 ∙ e)),
-        refl,
         refl,
       );
     }

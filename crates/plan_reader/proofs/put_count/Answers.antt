@@ -4,7 +4,6 @@ use mathlib.Core.Path.{sym, ap, ◌∙◌}
 use mathlib.Core.List.{[], ◌∷◌}
 use Rattle.text.proofs.Added.{added_none, added_as}
 use Rattle.plan_reader.proofs.Counts.{count_there, count_none}
-use borrow.Author.Rules.{rules}
 use Rattle.plan_reader.proofs.put_count.Goals as goal
 
 pub returns-then-ahead-ne-PROCEDURE : goal.returns-then-ahead-ne-PROCEDURE

@@ -3,7 +3,6 @@ use native.Mathlib.Omega.{arith}
 use mathlib.Core.Path.{◌∙◌}
 use Rattle.text.proofs.Added.{added_more}
 use Rattle.plan_parsing.specs.Plan.{counts_of}
-use borrow.Author.Rules.{rules}
 use Rattle.plan_reader.proofs.put_counts.Goals as goal
 
 pub put_byte-next-requires : goal.put_byte-next-requires

@@ -1,9 +1,6 @@
-use Prim.Native.Nat.{◌-◌}
 use native.Mathlib.Numerals.{add-one}
 use native.Mathlib.Omega.{arith}
-use lib.ListN.{length}
-use Rattle.plan_reader.proofs.Counts.{At, at_first, at_next, at_last}
-use borrow.Author.Rules.{rules}
+use Rattle.plan_reader.proofs.Counts.{at_first, at_next, at_last}
 use Rattle.plan_reader.proofs.put_further.Goals as goal
 
 pub loop-index-init : goal.loop-index-init

@@ -1,10 +1,8 @@
 -- `read_plan` meets its contract. Assumes nothing.
 use native.Mathlib.Omega.{arith}
-use mathlib.Core.Path.{◌∙◌}
 use Rattle.plan_reader.specs.Inner.Reading.{fault_of}
 use Rattle.plan_reader.proofs.Counts.{counts_few, first_counts}
 use Rattle.plan_reader.proofs.OneMore.{starts}
-use borrow.Author.Rules.{rules}
 use Rattle.plan_reader.proofs.read_plan.Goals as goal
 
 pub header-heading-requires : goal.header-heading-requires

@@ -1,17 +1,17 @@
 -- `step` meets its contract. Assumes nothing.
 use native.Mathlib.Omega.{arith}
+use mathlib.Core.Path.{refl}
 use Rattle.plan_reader.proofs.Steps.{stop_faulty, read_finished, read_full, kept_goes}
-use borrow.Author.Rules.{rules}
 use Rattle.plan_reader.proofs.step.Goals as goal
 
-pub procedure-parsed-requires : goal.procedure-parsed-requires
-procedure-parsed-requires c =
+pub procedure-requires : goal.procedure-requires
+procedure-requires c =
     let g = c.requires.going in
     (c.requires.tokens_len_bound.0, g.inside, c.requires.tokens_len_bound.2, omega (arith, g.sized), g.ordered, c.requires.sized)
 
 pub keep-requires : goal.keep-requires
 keep-requires c =
-    let r = c.procedure-parsed.ensures in
+    let r = c.procedure.ensures in
     let f = read_finished r c.in-Read.is in (
       c.requires.tokens_len_bound.2,
       r.kept.ordered,
@@ -22,13 +22,14 @@ keep-requires c =
 pub returns-in-Stopped : goal.returns-in-Stopped
 returns-in-Stopped c =
     record {
-      so = stop_faulty c.requires.going c.requires.tokens_len_bound.2 c.requires.tokens_len_bound.1 c.procedure-parsed.ensures c.in-Stopped.is;
+      so = λ few. stop_faulty c.requires.going c.requires.tokens_len_bound.2 c.requires.tokens_len_bound.1 c.procedure.ensures c.in-Stopped.is;
     }
 
 pub returns-in-Read : goal.returns-in-Read
 returns-in-Read c =
-    let r = c.procedure-parsed.ensures in
-    kept_goes c.requires.going c.requires.tokens_len_bound.2 c.requires.tokens_len_bound.1 r.kept (read_finished r c.in-Read.is) c.keep.ensures
+    let r = c.procedure.ensures in
+    kept_goes c.requires.going c.requires.tokens_len_bound.2 c.requires.tokens_len_bound.1 r.kept (read_finished r c.in-Read.is) _ _ refl refl refl refl
+    c.keep.ensures
 
 pub returns-in-Full : goal.returns-in-Full
-returns-in-Full c = record { so = read_full c.procedure-parsed.ensures c.in-Full.is }
+returns-in-Full c = record { so = λ few. read_full c.procedure.ensures c.in-Full.is }

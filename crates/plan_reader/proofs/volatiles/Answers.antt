@@ -2,7 +2,6 @@
 use native.Mathlib.Omega.{arith}
 use mathlib.Core.Path.{sym, ◌∙◌}
 use Rattle.plan_reader.proofs.Headings.{present, marked_none, marked_some}
-use borrow.Author.Rules.{rules}
 use Rattle.plan_reader.proofs.volatiles.Goals as goal
 
 pub returns-then-ahead-ne-VOLATILE : goal.returns-then-ahead-ne-VOLATILE

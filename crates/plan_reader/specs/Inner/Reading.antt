@@ -1,8 +1,8 @@
 -- What is left to read of a plan's tokens. No reader of the entry's promise needs it. Assumes nothing.
-use Rattle.std.specs.Prelude.{ℕ, zero, suc, ◌+◌, ◌-◌, ◌*◌, ◌^◌, ◌≤◌, ◌<◌, ◌≡◌, Bool, true, false, cond, ◌&&◌, List, [], ◌∷◌, eqb, ltb, length, get_or, drop, set}
+use Rattle.std.specs.Prelude.{ℕ, suc, ◌+◌, ◌-◌, ◌^◌, ◌≤◌, ◌<◌, ◌≡◌, Bool, true, false, cond, ◌&&◌, List, [], ◌∷◌, eqb, ltb, length, get_or, drop, set}
 use Rattle.plan_notation.specs.Tokens.{procedure_word, text_end}
 use Rattle.plan_parsing.specs.Parser.{ahead}
-use Rattle.plan_parsing.specs.Plan.{Reading, plan, fault, Fault, counts_from, counts_of, Before, procedures_by, mask_from, behind_fields, with_volatiles, read_plan}
+use Rattle.plan_parsing.specs.Plan.{Reading, plan, fault, Fault, counts_of, Before, procedures_by, mask_from, behind_fields, with_volatiles, read_plan}
 use Rattle.plan_packed.specs.Slots.{closed}
 use Rattle.plan_packed.specs.Inner.Steps.{Ordered, tree_in}
 use Rattle.plan_written.specs.Written.{size_of_all}
@@ -12,8 +12,9 @@ use Rattle.plan_parser.specs.Inner.Reading.{terms_left}
 use Rattle.plan_reader.specs.declared.Heading.{Heading}
 use Rattle.plan_reader.specs.declared.Outcome.{Outcome}
 use Rattle.plan_reader.specs.declared.Outcome.TheVariants.{Plan, Refused, Full}
-use Rattle.plan_reader.specs.declared.Next.{Next}
-use Rattle.plan_reader.specs.declared.Next.TheVariants.{On, Last, Stop, Crowded}
+use Rattle.plan_reader.specs.declared.Rest.{Rest}
+use Rattle.std.specs.declared.ops.ControlFlow.{ControlFlow}
+use Rattle.std.specs.declared.ops.ControlFlow.TheVariants.{Continue, Break}
 
 -- the parameter count at a token, if it is the word `procedure`
 unfoldable pub count_at : List ℕ → ℕ → List ℕ
@@ -90,14 +91,12 @@ pub record Going (ts : List ℕ) (v m : ℕ) (words roots counts : List ℕ) (p 
   pub inside : at ≤ length ts
   pub few : p ≤ 32
 
--- after procedure p
-abbrev pub GoesAs : List ℕ → ℕ → ℕ → List ℕ → List ℕ → List ℕ → ℕ → Next → Type 0
-GoesAs ts v m words roots counts p (On at left) = Going ts v m words roots counts (suc p) at left
-GoesAs ts v m words roots counts p (Last left) = PlanHeld ts v m (suc p) left words roots counts
-GoesAs ts v m words roots counts p (Stop kind reason at) = Faulty ts kind reason at
-GoesAs ts v m words roots counts p Crowded = length words < 1024
+-- after procedure p: the next one, or what comes of the plan
+abbrev pub GoesAs : List ℕ → ℕ → ℕ → List ℕ → List ℕ → List ℕ → ℕ → ControlFlow Outcome Rest → Type 0
+GoesAs ts v m words roots counts p (Continue rest) = Going ts v m words roots counts (suc p) rest.at rest.left
+GoesAs ts v m words roots counts p (Break r) = v ≤ 1 → ReadBy ts words roots counts r
 
-pub record Goes (ts : List ℕ) (v m : ℕ) (words roots counts : List ℕ) (p : ℕ) (r : Next) : Type 0 where
+pub record Goes (ts : List ℕ) (v m : ℕ) (words roots counts : List ℕ) (p : ℕ) (r : ControlFlow Outcome Rest) : Type 0 where
   pub so : GoesAs ts v m words roots counts p r
 
 -- a procedure that has been read is kept, if its slots are bound
@@ -106,14 +105,19 @@ pub record Kept (words roots counts roots' counts' : List ℕ) (p root k : ℕ) 
   pub roots_are : roots' ≡ set roots p root
   pub counts_are : counts' ≡ set counts p k
 
-abbrev pub KeptAs : List ℕ → ℕ → ℕ → List ℕ → List ℕ → List ℕ → List ℕ → List ℕ → ℕ → ℕ → ℕ → ℕ → Next → Type 0
-KeptAs ts p at words roots counts roots' counts' root k left next (Stop kind reason stop) =
+-- what comes of a plan, if it is known behind a procedure that has been read
+abbrev pub EndsAs : List ℕ → Heading → ℕ → ℕ → List ℕ → List ℕ → List ℕ → List ℕ → List ℕ → ℕ → ℕ → Rest → Outcome → Type 0
+EndsAs ts h p at words roots counts roots' counts' root k rest (Refused kind reason stop) =
     (closed (λ x. ltb x k) (tree_in words root) ≡ false) × (kind ≡ 2) × (stop ≡ at)
-KeptAs ts p at words roots counts roots' counts' root k left next (Last left') =
-    Kept words roots counts roots' counts' p root k × (ahead ts next ≡ text_end) × (left' ≡ left)
-KeptAs ts p at words roots counts roots' counts' root k left next (On at' left') =
-    Kept words roots counts roots' counts' p root k × (ahead ts next ≡ text_end → ⊥) × (at' ≡ next) × (left' ≡ left)
-KeptAs ts p at words roots counts roots' counts' root k left next Crowded = ⊥
+EndsAs ts h p at words roots counts roots' counts' root k rest (Plan v m n left) =
+    Kept words roots counts roots' counts' p root k × (ahead ts rest.at ≡ text_end) × (v ≡ h.version) × (m ≡ h.mask) × (n ≡ suc p) × (left ≡ rest.left)
+EndsAs ts h p at words roots counts roots' counts' root k rest Full = ⊥
 
-pub record Keeps (ts : List ℕ) (p at : ℕ) (words roots counts roots' counts' : List ℕ) (root k left next : ℕ) (r : Next) : Type 0 where
-  pub so : KeptAs ts p at words roots counts roots' counts' root k left next r
+abbrev pub KeptAs : List ℕ → Heading → ℕ → ℕ → List ℕ → List ℕ → List ℕ → List ℕ → List ℕ → ℕ → ℕ → Rest → ControlFlow Outcome Rest → Type 0
+KeptAs ts h p at words roots counts roots' counts' root k rest (Break r) = EndsAs ts h p at words roots counts roots' counts' root k rest r
+KeptAs ts h p at words roots counts roots' counts' root k rest (Continue rest') =
+    Kept words roots counts roots' counts' p root k × (ahead ts rest.at ≡ text_end → ⊥) × (rest' ≡ rest)
+
+pub record Keeps (ts : List ℕ) (h : Heading) (p at : ℕ) (words roots counts roots' counts' : List ℕ) (root k : ℕ) (rest : Rest)
+    (r : ControlFlow Outcome Rest) : Type 0 where
+  pub so : KeptAs ts h p at words roots counts roots' counts' root k rest r

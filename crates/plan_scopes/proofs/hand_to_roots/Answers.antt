@@ -7,7 +7,6 @@ use lib.Pow.{pow_pos, pow_mono}
 use Rattle.format.proofs.BitLaws.{shl_one}
 use Rattle.plan_packed.proofs.Reading.{procedures_lt}
 use Rattle.plan_packed.proofs.Shown.{parameters_small, root_below}
-use Rattle.plan_scopes.specs.Inner.Scopes.{RootsScoped}
 use Rattle.plan_scopes.proofs.Roots.{no_roots, root_scoped}
 use Rattle.plan_scopes.proofs.hand_to_roots.Goals as goal
 use Rattle.plan_scopes.proofs.hand_to_roots.Goals.{After-parameters-parameters}
@@ -24,7 +23,7 @@ module _ (k : ℕ) (h : k ≤ 8) where
   small = rw (shl_one k (omega arith)) (omega (arith, pow_mono {i = k} {j = 8} h))
 
 pub loop-procedure-init : goal.loop-procedure-init
-loop-procedure-init c = (search rules, rw c.requires.scopes_value (no_roots c.args.plan.now))
+loop-procedure-init c = rw c.requires.scopes_value (no_roots c.args.plan.now)
 
 pub root-root-requires : goal.root-root-requires
 root-root-requires c =
@@ -73,16 +72,13 @@ loop-procedure-preserved c =
     let b = a.plan.now in
     let f = c.requires.headed.few in
     let l = c.loop-procedure in
-    let h = root_below b a.procedures a.count l.procedure c.requires.headed c.loop-procedure-test.true in (
-      search rules,
-      rw add-one
-          (root_scoped b l.procedure _ c.root-root.result l.scopes _ (mask _ (few (goal.at.loop-procedure-preserved c).After-parameters-parameters) ∙ ap (λ (k : ℕ). 2 ^ k - 1) c.parameters-parameters.ensures)
-          c.root-root.ensures (omega (arith, h)) c.hand.ensures l.invariant.1),
-    )
+    let h = root_below b a.procedures a.count l.procedure c.requires.headed c.loop-procedure-test.true in
+    let bits = mask _ (few (goal.at.loop-procedure-preserved c).After-parameters-parameters) ∙ ap (λ (k : ℕ). 2 ^ k - 1) c.parameters-parameters.ensures in
+    rw add-one (root_scoped b l.procedure _ c.root-root.result l.scopes _ bits c.root-root.ensures (omega (arith, h)) c.hand.ensures l.invariant)
 
 pub returns : goal.returns
 returns c =
     let a = c.args in
     let l = c.loop-procedure in
     let e : l.procedure ≡ a.procedures = omega arith in
-    rw e at l.invariant.1
+    rw e at l.invariant

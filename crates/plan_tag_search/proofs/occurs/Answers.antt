@@ -1,33 +1,17 @@
-use mathlib.Core.Path.{◌≡◌, sym, ap, ◌∙◌}
-use mathlib.Core.Bool.{true, false}
-use Prim.Native.Nat.{ℕ, ◌-◌, ◌≤◌, ◌<◌}
+-- `occurs`: the tag of one of the first words is this one. Assumes nothing.
 use native.Mathlib.Omega.{arith}
+use mathlib.Core.Path.{◌∙◌}
 use lib.Dec.{eqb}
-use borrow.Author.Count.{below_more}
-use borrow.Author.Rules.{rules}
-use borrow.Author.Tests.{eq-eqb, ne_eqb}
-use Rattle.plan_packed.specs.Refusals.{any_below}
+use Rattle.std.proofs.Common.{rules, tests}
+use Rattle.std.proofs.lemmas.Iterator.{YieldsList-from_slice}
+use Rattle.std.proofs.lemmas.Iterator.Search.{any_from_yields_List}
+use Rattle.plan_packed.specs.Inner.Operands.{tag_of}
 use Rattle.plan_packed.specs.Inner.Steps.{tag_in}
-use Rattle.costs.proofs.Below.{any_true, none_any}
+use Rattle.plan_tag_search.proofs.Tests.{any_taken}
 use Rattle.plan_tag_search.proofs.occurs.Goals as goal
 
-pub loop-term-init : goal.loop-term-init
-loop-term-init c = (search rules, λ k h. absurd (omega arith))
-
-pub tag-requires : goal.tag-requires
-tag-requires c = tt
-
-pub returns-then-tag : goal.returns-then-tag
-unfolding tag_in
-returns-then-tag c =
-    let l = c.loop-term in
-    sym (any_true _ _ l.term (search rules) (eq-eqb _ _ (sym c.tag.ensures ∙ c.if-tag.true)))
-
-pub loop-term-preserved : goal.loop-term-preserved
-unfolding tag_in
-loop-term-preserved c =
-    let l = c.loop-term in
-    (search rules, below_more _ _ l.invariant.1 (ne_eqb _ _ (λ e. c.if-tag.false (c.tag.ensures ∙ e))))
-
 pub returns : goal.returns
-returns c = let l = c.loop-term in sym (none_any _ _ (λ k h. l.invariant.1 k (omega arith)))
+unfolding tag_in
+returns c =
+    any_from_yields_List (λ w. eqb (tag_of w) c.args.tag) _ _ c.any.result c.any.ensures.ran (YieldsList-from_slice _ c.iter.ensures.rest) (λ x b q k. search (rules, tests))
+    ∙ any_taken (λ w. eqb (tag_of w) c.args.tag) c.args.words.now c.args.count (omega arith)

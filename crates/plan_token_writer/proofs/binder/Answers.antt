@@ -2,7 +2,6 @@
 use native.Mathlib.Omega.{arith}
 use borrow.Author.Tests.{eq-eqb, ne_eqb}
 use Rattle.plan_token_writer.specs.Inner.Items.{binder_on}
-use borrow.Author.Rules.{rules}
 use Rattle.plan_token_writer.proofs.binder.Goals as goal
 
 pub returns-then-slot-eq15 : goal.returns-then-slot-eq15

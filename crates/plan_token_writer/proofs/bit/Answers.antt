@@ -1,7 +1,6 @@
 -- `bit` meets its contract. Assumes nothing.
 use mathlib.Core.Path.{refl}
 use Rattle.plan_packed.specs.Format.{mask_bit}
-use borrow.Author.Rules.{rules}
 use Rattle.plan_token_writer.proofs.bit.Goals as goal
 
 pub returns : goal.returns

@@ -1,22 +1,17 @@
 -- `condition_row` meets its contract. Assumes nothing.
-use Prim.Native.Nat.{ℕ, ◌≤◌, ◌<◌}
 use native.Mathlib.Omega.{arith}
 use borrow.Author.Tests.{lt-ltb, le-ltb}
 use Rattle.plan_token_writer.specs.Inner.Items.{condition_row}
-use borrow.Author.Rules.{rules}
 use Rattle.plan_token_writer.proofs.condition_row.Goals as goal
 
-low : (k : ℕ) → k < 13 → k ≤ 12
-low k h = omega arith
-
-pub returns-then-tag-lt13 : goal.returns-then-tag-lt13
+pub returns-in-13-to-15 : goal.returns-in-13-to-15
 unfolding condition_row
-returns-then-tag-lt13 c = (rw (le-ltb 12 _ (low _ c.if-tag-lt13.true)), omega arith)
+returns-in-13-to-15 c = (rw (lt-ltb 12 c.args.tag (omega arith), lt-ltb c.args.tag 16 (omega arith)), omega arith)
 
-pub returns-then-tag-lt16 : goal.returns-then-tag-lt16
+pub returns-in_default : goal.returns-in_default
 unfolding condition_row
-returns-then-tag-lt16 c = (rw (lt-ltb 12 _ c.if-tag-lt13.false, lt-ltb _ 16 c.if-tag-lt16.true), omega arith)
+returns-in_default c = (rw (le-ltb 12 c.args.tag (omega arith)), omega arith)
 
-pub returns-else-tag-lt16 : goal.returns-else-tag-lt16
+pub returns-in_default-2 : goal.returns-in_default-2
 unfolding condition_row
-returns-else-tag-lt16 c = (rw (lt-ltb 12 _ c.if-tag-lt13.false, le-ltb _ 16 c.if-tag-lt16.false), omega arith)
+returns-in_default-2 c = (rw (lt-ltb 12 c.args.tag (omega arith), le-ltb c.args.tag 16 (omega arith)), omega arith)

@@ -1,7 +1,6 @@
 -- `is_new` meets its contract. Assumes nothing.
 use borrow.Author.Tests.{lt-ltb, le-ltb}
 use Rattle.plan_token_writer.specs.Inner.Items.{is_new}
-use borrow.Author.Rules.{rules}
 use Rattle.plan_token_writer.proofs.is_new.Goals as goal
 
 pub returns-then-context-lt4 : goal.returns-then-context-lt4

@@ -2,7 +2,6 @@
 use Prim.Native.Nat.{ℕ, ◌/◌, ◌%◌, ◌^◌}
 use native.Mathlib.Omega.{arith}
 use mathlib.Core.Path.{ap}
-use borrow.Author.Rules.{rules}
 use Rattle.plan_token_writer.specs.Inner.Items.{operand_by}
 use Rattle.plan_token_writer.proofs.Operands.{shift_is}
 use Rattle.plan_token_writer.proofs.operand.Goals as goal

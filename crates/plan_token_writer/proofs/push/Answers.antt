@@ -1,6 +1,5 @@
 -- `push` meets its contract. Assumes nothing.
 use Rattle.plan_token_writer.proofs.Stack.{pushed_one}
-use borrow.Author.Rules.{rules}
 use Rattle.plan_token_writer.proofs.push.Goals as goal
 
 pub returns : goal.returns

@@ -1,16 +1,14 @@
 -- `push_row` meets its contract. Assumes nothing.
 use native.Mathlib.Omega.{arith}
-use mathlib.Core.Path.{◌∙◌}
 use Rattle.plan_token_writer.specs.Inner.Items.{row_number}
 use Rattle.plan_token_writer.proofs.Operands.{few_items, items_length, in_parentheses, without}
 use Rattle.plan_token_writer.proofs.Stack.{pushed_more, pushed_as}
-use borrow.Author.Rules.{rules}
 use Rattle.plan_token_writer.proofs.push_row.Goals as goal
 
 pub push_items-next-requires : goal.push_items-next-requires
 push_items-next-requires c =
     let p = c.push-inside.ensures in
-    (c.requires.0, c.requires.1, omega (arith, c.requires.2, p.top, p.kept))
+    (c.requires.0, omega (arith, c.requires.1, p.top, p.kept))
 
 pub push-requires : goal.push-requires
 push-requires c =
@@ -18,20 +16,16 @@ push-requires c =
     let q = c.push_items-next.ensures in (
       omega (
         arith,
-        c.requires.2,
+        c.requires.1,
         p.top,
         p.kept,
         q.top,
         q.kept,
-        few_items _ c.requires.1,
+        few_items _ c.requires.0,
         items_length c.args.word c.args.row 2 (row_number c.args.row 1),
       ),
       omega arith,
     )
-
-pub shape_of-stack-then-number-level : goal.shape_of-stack-then-number-level
-shape_of-stack-then-number-level c = c.push.ensures.kept ∙ c.push_items-next.ensures.kept
-    ∙ c.push-inside.ensures.kept
 
 pub returns-then-number-level : goal.returns-then-number-level
 returns-then-number-level c =
@@ -40,9 +34,6 @@ returns-then-number-level c =
     c.if-number-level.true))
     (pushed_more (pushed_more c.push-inside.ensures
     c.push_items-next.ensures) c.push.ensures)
-
-pub shape_of-stack : goal.shape_of-stack
-shape_of-stack c = c.push_items.ensures.kept
 
 pub returns : goal.returns
 returns c =

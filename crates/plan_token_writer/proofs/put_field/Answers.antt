@@ -4,16 +4,12 @@ use mathlib.Core.Path.{sym, ap, ◌∙◌}
 use lib.ListN.{length}
 use Rattle.text.proofs.Added.{added_none, added_as}
 use Rattle.plan_token_writer.proofs.Fields.{field_there, field_not_there}
-use borrow.Author.Rules.{rules}
 use Rattle.plan_token_writer.proofs.put_field.Goals as goal
 
 pub put_byte-requires : goal.put_byte-requires
 put_byte-requires c =
     let e = field_there c.args.mask c.args.field (sym c.bit.ensures ∙ c.if-bit-eq1.true) in
     omega (arith, c.requires.1, ap length e)
-
-pub shape_of-area-then-bit-eq1 : goal.shape_of-area-then-bit-eq1
-shape_of-area-then-bit-eq1 c = c.put_byte.ensures.kept
 
 pub returns-then-bit-eq1 : goal.returns-then-bit-eq1
 returns-then-bit-eq1 c = added_as (sym (field_there _ _ (sym c.bit.ensures ∙ c.if-bit-eq1.true)))

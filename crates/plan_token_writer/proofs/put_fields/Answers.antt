@@ -1,11 +1,7 @@
-use Prim.Native.Nat.{◌-◌, ◌≤◌}
 use native.Mathlib.Omega.{arith}
 use mathlib.Core.Path.{◌≡◌, sym}
-use Rattle.plan_packed.specs.Format.{fields_from}
-use Rattle.text.specs.Inner.Wrote.{Wrote}
 use Rattle.text.proofs.Added.{added_none, added_more, added_as}
 use Rattle.plan_token_writer.proofs.Fields.{one_field, fields_within, no_field}
-use borrow.Author.Rules.{rules}
 use Rattle.plan_token_writer.proofs.put_fields.Goals as goal
 
 pub loop-field-init : goal.loop-field-init
@@ -21,9 +17,6 @@ pub loop-field-preserved : goal.loop-field-preserved
 loop-field-preserved c =
     let l = c.loop-field in
     (omega (arith, l.invariant.0), omega arith, added_as (one_field _ _ _ l.invariant.0) (added_more l.invariant.2 c.put_field-next.ensures))
-
-pub shape_of-area : goal.shape_of-area
-shape_of-area c = c.loop-field.invariant.2.kept
 
 pub returns : goal.returns
 returns c =

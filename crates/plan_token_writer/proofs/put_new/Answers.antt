@@ -1,9 +1,7 @@
 -- `put_new` meets its contract. Assumes nothing.
 use native.Mathlib.Omega.{arith}
-use mathlib.Core.Path.{◌∙◌}
 use Rattle.text.proofs.Added.{added_more, added_as}
 use Rattle.plan_token_writer.proofs.Fields.{new_parts, new_length}
-use borrow.Author.Rules.{rules}
 use Rattle.plan_token_writer.proofs.put_new.Goals as goal
 
 pub put_byte-next-requires : goal.put_byte-next-requires
@@ -26,11 +24,6 @@ put_byte-requires c =
     let q = c.put_byte-next-2.ensures in
     let r = c.put_fields-next.ensures in
     omega (arith, c.requires, new_length c.args.mask, p.next, p.kept, q.next, q.kept, r.next, r.kept)
-
-pub shape_of-area : goal.shape_of-area
-shape_of-area c = c.put_byte.ensures.kept ∙ c.put_fields-next.ensures.kept
-    ∙ c.put_byte-next-2.ensures.kept
-    ∙ c.put_byte-next.ensures.kept
 
 pub returns : goal.returns
 returns c = added_as (new_parts _)

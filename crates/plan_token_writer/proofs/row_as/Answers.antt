@@ -2,7 +2,6 @@
 use native.Mathlib.Omega.{arith}
 use borrow.Author.Tests.{lt-ltb, le-ltb, eq-eqb, ne_eqb}
 use Rattle.plan_token_writer.specs.Inner.Items.{row_as}
-use borrow.Author.Rules.{rules}
 use Rattle.plan_token_writer.proofs.row_as.Goals as goal
 
 pub returns-then-tag-lt21 : goal.returns-then-tag-lt21

@@ -1,18 +1,16 @@
 -- `step` meets its contract, by the kind of the item on top. Assumes nothing.
-use Prim.Native.Nat.{ℕ, ◌+◌, ◌-◌, ◌*◌, ◌%◌, ◌≤◌, ◌<◌}
+use Prim.Native.Nat.{◌-◌}
 use native.Mathlib.Omega.{arith}
-use mathlib.Core.Path.{◌≡◌}
-use mathlib.Core.List.{[], ◌∷◌}
-use lib.ListN.{length}
+use mathlib.Core.List.{[]}
 use Rattle.plan_token_writer.proofs.Stepping.{of_token, room, within, written_step, new_item, new_some, row_item}
 use borrow.Author.Rules.{rules}
 use Rattle.plan_token_writer.proofs.step.Goals as goal
 
-pub offset_bounds-stack-below : goal.offset_bounds-stack-below
-offset_bounds-stack-below c = let p = c.requires in search (rules, within _ p.ordered [] _ _ _ p.some p.contexts _ p.room, p.size)
+pub offset_bounds-stack-top : goal.offset_bounds-stack-top
+offset_bounds-stack-top c = let p = c.requires in search (rules, within _ p.ordered [] _ _ _ p.some p.contexts _ p.room, p.size)
 
-pub bounds-stack-below : goal.bounds-stack-below
-bounds-stack-below c = let p = c.requires in omega (
+pub bounds-stack-top : goal.bounds-stack-top
+bounds-stack-top c = let p = c.requires in omega (
   arith,
   p.some,
   within _ p.ordered [] _ _ _ p.some p.contexts _
@@ -21,31 +19,25 @@ bounds-stack-below c = let p = c.requires in omega (
 )
 
 pub overflow_cast-item : goal.overflow_cast-item
-overflow_cast-item c = omega (arith, c.slice_known-3-1.given (c.args.top - 1))
+overflow_cast-item c = omega (arith, c.slice_known-3-1.given (c.args.standing.top - 1))
 
-pub put_byte-next-requires : goal.put_byte-next-requires
-put_byte-next-requires c =
+pub put_byte-at-requires : goal.put_byte-at-requires
+put_byte-at-requires c =
     let p = c.requires in
     omega (arith, room _ p.ordered [] _ _ _ p.some p.contexts _ _ (of_token _ p.ordered _ c.if-item-ge-TOKEN.true) p.room)
-
-pub shape_of-area-then-item-ge-TOKEN : goal.shape_of-area-then-item-ge-TOKEN
-shape_of-area-then-item-ge-TOKEN c = c.put_byte-next.ensures.kept
 
 pub returns-then-item-ge-TOKEN : goal.returns-then-item-ge-TOKEN
 returns-then-item-ge-TOKEN c =
     let p = c.requires in
     written_step _ p.ordered _ _ _ _ p.some p.contexts _ _ _ (of_token _ p.ordered _ c.if-item-ge-TOKEN.true) (omega arith)
-    c.put_byte-next.ensures
+    c.put_byte-at.ensures
 
-pub put_new-next-requires : goal.put_new-next-requires
-put_new-next-requires c =
+pub put_new-at-requires : goal.put_new-at-requires
+put_new-at-requires c =
     let p = c.requires in
     room _ p.ordered [] _ _ _ p.some p.contexts _ _
     (new_item _ p.ordered _ _ _ _ c.if-item-ge-TOKEN.false c.tag-tag.ensures
     c.is_new.ensures c.if-is_new.true c.mask_of.ensures) p.room
-
-pub shape_of-area-then-is_new : goal.shape_of-area-then-is_new
-shape_of-area-then-is_new c = c.put_new-next.ensures.kept
 
 pub returns-then-is_new : goal.returns-then-is_new
 returns-then-is_new c =
@@ -54,18 +46,14 @@ returns-then-is_new c =
     (new_item _ p.ordered _ _ _ _ c.if-item-ge-TOKEN.false
     c.tag-tag.ensures c.is_new.ensures
     c.if-is_new.true c.mask_of.ensures)
-    (new_some _) c.put_new-next.ensures
+    (new_some _) c.put_new-at.ensures
 
-pub push_row-next-requires : goal.push_row-next-requires
-push_row-next-requires c =
+pub push_row-top-requires : goal.push_row-top-requires
+push_row-top-requires c =
     let p = c.requires in (
-      p.table,
       c.row_as.ensures.1,
       omega (arith, within _ p.ordered [] _ _ _ p.some p.contexts _ p.room, p.size),
     )
-
-pub shape_of-stack : goal.shape_of-stack
-shape_of-stack c = c.push_row-next.ensures.kept
 
 pub returns : goal.returns
 returns c =
@@ -73,4 +61,4 @@ returns c =
     row_item _ p.ordered _ _ _ _ p.some p.contexts _ _ _ _ c.if-item-ge-TOKEN.false
     c.tag-tag.ensures c.is_new.ensures
     c.if-is_new.false c.row_as.ensures.0
-    c.row_as.ensures.1 _ c.push_row-next.ensures
+    c.row_as.ensures.1 _ c.push_row-top.ensures

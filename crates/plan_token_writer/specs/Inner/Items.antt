@@ -1,7 +1,7 @@
 -- What is left to write of a tree, as numbers on a stack. No reader of the entry's promise needs it. Assumes nothing.
 use Rattle.std.specs.Prelude.{ℕ, zero, suc, ◌+◌, ◌-◌, ◌*◌, ◌/◌, ◌%◌, ◌^◌, ◌≤◌, ◌<◌, ◌≡◌, Bool, cond, ◌&&◌, List, [], ◌∷◌, ◌++◌, eqb, ltb, leb, length, get_or}
 use Rattle.plan_packed.specs.Format.{fields_from}
-use Rattle.plan_packed.specs.Inner.Operands.{tag_of, slot_bits, field_bits, procedure_bits}
+use Rattle.plan_packed.specs.Inner.Operands.{slot_bits, field_bits, procedure_bits}
 use Rattle.plan_packed.specs.Inner.Steps.{Ordered, tree_in, condition_in, list_in}
 use Rattle.plan_notation.specs.Tokens.{in_word, then_word, else_word, do_word, all_word, and_word, true_word, not_word, null_word, new_word, let_word, if_word, while_word}
 use Rattle.plan_notation.specs.Tokens.{call_word, fork_word, join_word, synch_word, wait_word, notify_word, opening, closing, comma, dot, equals, becomes, dash}
@@ -188,9 +188,8 @@ unfolding tokens_in key_of
 weight words is = 1025 * length (tokens_in words is) + key_of is
 
 -- what a step is given
-pub record Running (words : List ℕ) (rows : List (List ℕ)) (stack : List ℕ) (top : ℕ) (area : List ℕ) (at : ℕ) : Type 0 where
+pub record Running (words stack : List ℕ) (top : ℕ) (area : List ℕ) (at : ℕ) : Type 0 where
   pub ordered : Ordered words
-  pub table : rows ≡ item_rows
   pub some : 0 < top
   pub size : length area + 8 ≤ length stack
   pub contexts : InContext (stack_of stack top)

@@ -1,14 +1,10 @@
 -- `put_head` meets its contract. Assumes nothing.
 use native.Mathlib.Omega.{arith}
 use Rattle.plan_tokens.specs.Inner.Begun.{procedure_head}
-use borrow.Author.Rules.{rules}
 use Rattle.plan_tokens.proofs.put_head.Goals as goal
 
 pub put_word-requires : goal.put_word-requires
 put_word-requires c = omega (arith, c.requires.at_in_bounds)
-
-pub shape_of-area : goal.shape_of-area
-shape_of-area c = c.put_word.ensures.kept
 
 pub returns : goal.returns
 unfolding procedure_head

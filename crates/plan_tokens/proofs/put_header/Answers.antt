@@ -1,7 +1,7 @@
 -- `put_header` meets its contract. Assumes nothing.
 use Prim.Native.Nat.{ℕ, ◌≤◌, ◌<◌}
 use native.Mathlib.Omega.{arith}
-use mathlib.Core.Path.{◌≡◌, ap, ◌∙◌}
+use mathlib.Core.Path.{◌≡◌, ap}
 use mathlib.Core.List.{[], ◌∷◌}
 use Rattle.plan_packed.specs.Format.{fields_from}
 use Rattle.plan_notation.specs.Shown.{volatile_tokens}
@@ -29,9 +29,6 @@ pub put_volatiles-requires : goal.put_volatiles-requires
 put_volatiles-requires c =
     let p = c.put_word-next.ensures in
     rw c.volatiles-mask.ensures (omega (arith, c.requires.2, header_length c.args.plan.now, p.next, p.kept))
-
-pub shape_of-area : goal.shape_of-area
-shape_of-area c = c.put_volatiles.ensures.kept ∙ c.put_word-next.ensures.kept
 
 pub returns : goal.returns
 returns c =

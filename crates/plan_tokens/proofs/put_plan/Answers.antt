@@ -4,7 +4,6 @@ use mathlib.Core.Path.{◌∙◌}
 use Rattle.text.proofs.Added.{added_more, added_as}
 use Rattle.plan_tokens.proofs.Parts.{some, sized, in_order, tree_same, root_inside, version_small, room_for_header, room_for_main, room_for_others}
 use Rattle.plan_tokens.proofs.Parts.{main_wrote, whole_is}
-use borrow.Author.Rules.{rules}
 use Rattle.plan_tokens.proofs.put_plan.Goals as goal
 
 pub procedures-count-requires : goal.procedures-count-requires
@@ -22,7 +21,7 @@ pub write_expression-behind-requires : goal.write_expression-behind-requires
 write_expression-behind-requires c =
     let g = c.requires.given.0 in
     let p = c.put_header-main.ensures in
-    let q = c.root-root.ensures in record { ordered = (in_order _ _ g, rw q (root_inside _ _ g 0 (some _ _ g))); rows_value = (c.all-rows.ensures, omega (arith, c.requires.area_in_bounds, p.kept)); root_in_bounds = rw q (rw (tree_same _ _ g 0) (rw p.kept (room_for_main _ _ g _ c.requires.given.1 _ p.next))) }
+    let q = c.root-root.ensures in record { ordered = (in_order _ _ g, rw q (root_inside _ _ g 0 (some _ _ g))); stack_size = omega (arith, c.requires.area_in_bounds, p.kept); root_in_bounds = rw q (rw (tree_same _ _ g 0) (rw p.kept (room_for_main _ _ g _ c.requires.given.1 _ p.next))) }
 
 pub put_procedures-requires : goal.put_procedures-requires
 put_procedures-requires c =
@@ -31,18 +30,12 @@ put_procedures-requires c =
     let q = main_wrote _ _ g c.root-root.ensures c.write_expression-behind.ensures in record {
       given = (
         g,
-        c.all-rows.ensures,
         omega
             (arith, c.requires.area_in_bounds, p.kept, q.kept),
       );
       count_value = c.procedures-count.ensures;
       plan_in_bounds = rw (q.kept ∙ p.kept) (room_for_others _ _ g _ c.requires.given.1 _ _ p.next q.next);
     }
-
-pub shape_of-area : goal.shape_of-area
-shape_of-area c = c.put_procedures.ensures.kept
-    ∙ c.write_expression-behind.ensures.kept
-    ∙ c.put_header-main.ensures.kept
 
 pub returns : goal.returns
 returns c =

@@ -7,7 +7,6 @@ use Rattle.plan_notation.specs.Shown.{loose, shown}
 use Rattle.text.proofs.Added.{added_more, added_as}
 use Rattle.plan_tokens.specs.Inner.Begun.{procedure_head, procedure_alone}
 use Rattle.plan_tokens.proofs.Parts.{few, sized, in_order, tree_same, root_inside, parameters_small, alone_length, head_length}
-use borrow.Author.Rules.{rules}
 use Rattle.plan_tokens.proofs.put_procedure.Goals as goal
 
 pub parameters-parameters-requires : goal.parameters-parameters-requires
@@ -30,7 +29,7 @@ write_expression-requires c =
     let p = c.put_head-next.ensures in
     let q = c.root-root.ensures in record {
       ordered = (in_order _ _ g, rw q (root_inside _ _ g _ c.requires.procedure_bound.0));
-      rows_value = (c.requires.given.1, omega (arith, c.requires.given.2, p.kept));
+      stack_size = omega (arith, c.requires.given.1, p.kept);
       root_in_bounds = rw q (rw (tree_same _ _ g _)
           (omega (
             arith,
@@ -41,10 +40,6 @@ write_expression-requires c =
             head_length c.args.procedure c.parameters-parameters.result,
           )));
     }
-
-pub shape_of-area : goal.shape_of-area
-shape_of-area c = c.write_expression.ensures.kept
-    ∙ c.put_head-next.ensures.kept
 
 pub returns : goal.returns
 unfolding procedure_alone

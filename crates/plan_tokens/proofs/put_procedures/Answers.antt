@@ -1,10 +1,7 @@
-use Prim.Native.Nat.{◌-◌}
 use native.Mathlib.Omega.{arith}
-use mathlib.Core.Path.{◌≡◌, refl, sym, ◌∙◌}
-use lib.ListN.{length}
+use mathlib.Core.Path.{refl}
 use native.Mathlib.Numerals.{add-one}
-use Rattle.plan_tokens.specs.Inner.Begun.{Given}
-use Rattle.plan_tokens.proofs.Parts.{few, At, at_first, room_for_one, at_next, at_last}
+use Rattle.plan_tokens.proofs.Parts.{at_first, room_for_one, at_next, at_last}
 use borrow.Author.Rules.{rules}
 use Rattle.plan_tokens.proofs.put_procedures.Goals as goal
 
@@ -15,10 +12,7 @@ pub put_procedure-at-requires : goal.put_procedure-at-requires
 put_procedure-at-requires c =
     let g = c.requires.given.0 in
     let l = c.loop-procedure in
-    let h = rw c.requires.count_value at c.loop-procedure-test.true in record { given = (g, c.requires.given.1, omega (arith, c.requires.given.2, l.invariant.0, (l.invariant.1 g).wrote.kept)); procedure_bound = (h, room_for_one _ _ g (l.invariant.1 g) h c.requires.plan_in_bounds) }
-
-pub overflow_add-procedure : goal.overflow_add-procedure
-overflow_add-procedure c = search (rules, few _ _ c.requires.given.0, c.requires.count_value)
+    let h = rw c.requires.count_value at c.loop-procedure-test.true in record { given = (g, omega (arith, c.requires.given.1, l.invariant.0, (l.invariant.1 g).wrote.kept)); procedure_bound = (h, room_for_one _ _ g (l.invariant.1 g) h c.requires.plan_in_bounds) }
 
 pub loop-procedure-preserved : goal.loop-procedure-preserved
 loop-procedure-preserved c =
@@ -26,14 +20,6 @@ loop-procedure-preserved c =
     let x = c.loop-procedure-test in
     let p = c.put_procedure-at in
     (search rules, λ g. let h = rw c.requires.count_value at x.true in rw add-one (at_next _ _ g (l.invariant.1 g) h p.ensures))
-
-pub shape_of-stack : goal.shape_of-stack
-shape_of-stack c = let l = c.loop-procedure in l.invariant.0
-
-pub shape_of-area : goal.shape_of-area
-shape_of-area c =
-    let l = c.loop-procedure in
-    (l.invariant.1 c.requires.given.0).wrote.kept
 
 pub returns : goal.returns
 returns c =

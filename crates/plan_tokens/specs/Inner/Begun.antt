@@ -1,5 +1,5 @@
 -- What is given to the writing of a plan's tokens, and what is left of it: no reader of the entry's promise needs it. Assumes nothing.
-use Rattle.std.specs.Prelude.{ℕ, ◌+◌, ◌-◌, ◌≤◌, ◌<◌, ◌≡◌, List, [], ◌∷◌, ◌++◌, length}
+use Rattle.std.specs.Prelude.{ℕ, ◌-◌, ◌<◌, ◌≡◌, List, [], ◌∷◌, ◌++◌}
 use Rattle.std.proofs.Math.Option.{none}
 use Rattle.plan_packed.specs.Syntax.{Procedure}
 use Rattle.plan_packed.specs.Format
@@ -38,8 +38,8 @@ unfoldable pub procedures_behind : List ℕ → List ℕ
 unfolding procedure_tokens procedures_from
 procedures_behind plan = procedure_tokens 1 (rest_from plan 1)
 
--- the first field from field 1 on that a mask has, or 32
+-- the first field from field 1 on that a mask has
 pub record FirstField (m r : ℕ) : Type 0 where
   pub same : fields_from m 1 31 ≡ fields_from m r (32 - r)
-  pub small : r ≤ 32
-  pub there : r < 32 → mask_bit m r ≡ 1
+  pub small : r < 32
+  pub there : mask_bit m r ≡ 1

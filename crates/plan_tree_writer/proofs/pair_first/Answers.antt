@@ -1,7 +1,6 @@
 -- `pair_first` meets its contract. Assumes nothing.
 use mathlib.Core.Path.{sym, ◌∙◌}
 use borrow.Author.Tests.{eq-eqb, ne_eqb}
-use borrow.Author.Rules.{rules}
 use Rattle.plan_tree_writer.proofs.pair_first.Goals as goal
 
 pub returns-then-tag-eq-LET : goal.returns-then-tag-eq-LET

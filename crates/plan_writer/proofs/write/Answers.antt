@@ -1,8 +1,7 @@
-use Prim.Native.Nat.{◌-◌}
 use native.Mathlib.Omega.{arith}
 use mathlib.Core.Path.{◌∙◌}
 use Rattle.plan_writer.proofs.Stores.{two_keeps, eight_keeps}
-use Rattle.plan_writer.proofs.HeldAreas.{At, at_start, kept, at_end, number_inside, room, next, whole}
+use Rattle.plan_writer.proofs.HeldAreas.{at_start, kept, at_end, number_inside, room, next, whole}
 use Rattle.plan_writer.proofs.write.Goals as goal
 
 pub put_header-requires : goal.put_header-requires
@@ -48,11 +47,6 @@ write_expression-number-requires c =
     let l = c.loop-procedure in
     let t = c.loop-procedure-test.true in
     let k = eight_keeps _ _ _ c.put_header.ensures in record { ordered = (w.ordered, w.root_inside _ t); room = room w l.invariant t k (two_keeps _ _ _ c.put_procedure.ensures) }
-
-pub overflow_add-procedure-in-loop-procedure : goal.overflow_add-procedure-in-loop-procedure
-overflow_add-procedure-in-loop-procedure c =
-    let q = c.requires.few_procedures in
-    omega arith
 
 pub loop-procedure-preserved : goal.loop-procedure-preserved
 loop-procedure-preserved c =

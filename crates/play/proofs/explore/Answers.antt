@@ -1,6 +1,5 @@
 -- `explore` meets its contract. Assumes nothing.
 use native.Mathlib.Omega.{arith}
-use borrow.Author.Rules.{rules}
 use Rattle.plan_packed.specs.Format.{procedures}
 use Rattle.run_refusals.proofs.Passed.{Inside, inside}
 use Rattle.play.specs.Inner.Roots.{Roots}

@@ -1,7 +1,6 @@
 -- `run` meets its contract. Assumes nothing.
 use native.Mathlib.Omega.{arith}
 use mathlib.Core.Path.{refl}
-use borrow.Author.Rules.{rules}
 use Rattle.play.proofs.Explores.{alone}
 use Rattle.play.proofs.run.Goals as goal
 

@@ -7,7 +7,7 @@ use lib.ListN.{length-append}
 use borrow.Author.Rules.{rules}
 use Rattle.play.specs.Inner.RunOn.{Given, RunOn}
 use Rattle.preview.specs.Preview.{with_pick}
-use Rattle.preview.specs.Answer.{answered, AsLogged}
+use Rattle.preview.specs.Answer.{preview_of, LoggedAs}
 use Rattle.preview.specs.Inner.Shown.{inner_log}
 use Rattle.preview.proofs.Found.{one_of_eight, shown_found, last_given, written}
 use Rattle.preview.proofs.shown.Goals as goal
@@ -46,4 +46,4 @@ returns c =
     let a = c.args in
     let f = shown_found a.plan.now a.schedule.now a.pick a.words.now inner_log c.requires c.run-ran.result c.run-ran.new.log
     (ran (goal.at.returns c).After-run-ran) in
-    record { answer = ap answered c.last_pick.ensures ∙ f.answer; logged = along AsLogged (sym c.last_pick.ensures) f.as_logged }
+    record { answer = ap preview_of c.last_pick.ensures ∙ f.answer; logged = along LoggedAs (sym c.last_pick.ensures) f.as_logged }

@@ -1,6 +1,5 @@
 -- `failed` meets its contract. Assumes nothing.
 use Rattle.read.proofs.Answers.{failed_is}
-use borrow.Author.Rules.{rules}
 use Rattle.read.proofs.failed.Goals as goal
 
 pub returns : goal.returns

@@ -1,7 +1,6 @@
 -- `known` meets its contract. Assumes nothing.
 use borrow.Author.Tests.{lt-ltb, le-ltb}
 use Rattle.read.specs.Answer.{known_kind}
-use borrow.Author.Rules.{rules}
 use Rattle.read.proofs.known.Goals as goal
 
 pub returns-then-kind-lt3 : goal.returns-then-kind-lt3

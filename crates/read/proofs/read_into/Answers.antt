@@ -10,29 +10,26 @@ pub shape_of-tokens-then-words-lt-TERMS : goal.shape_of-tokens-then-words-lt-TER
 shape_of-tokens-then-words-lt-TERMS c = c.lex-count.ensures.same
 
 pub returns-then-words-lt-TERMS : goal.returns-then-words-lt-TERMS
-returns-then-words-lt-TERMS c = (c.if-words-lt-TERMS.true, refl, c.requires.1)
-
-pub tell-requires : goal.tell-requires
-tell-requires c = c.requires.1
+returns-then-words-lt-TERMS c = (c.if-words-lt-TERMS.true, refl)
 
 pub shape_of-tokens-then-tokens-count : goal.shape_of-tokens-then-tokens-count
 shape_of-tokens-then-tokens-count c = c.lex-count.ensures.same
 
 pub returns-then-tokens-count : goal.returns-then-tokens-count
 returns-then-tokens-count c =
-    let l = c.requires.0 in
+    let l = c.requires in
     let m = l.sized.most_words in
-    many_told _ _ c.lex-count.ensures l.few_tokens _ (l.whole (omega (
+    many_told _ _ c.lex-count.ensures l.few_tokens (l.whole (omega (
       arith,
       c.if-words-lt-TERMS.false,
-    ))) (omega (arith, c.lex-count.ensures.same, c.if-tokens-count.true)) c.tell.ensures
+    ))) (omega (arith, c.lex-count.ensures.same, c.if-tokens-count.true))
 
 pub slice_bounds-read_tokens-end : goal.slice_bounds-read_tokens-end
 slice_bounds-read_tokens-end c = search (rules, c.if-tokens-count.false)
 
 pub read_tokens-requires : goal.read_tokens-requires
 read_tokens-requires c =
-    let l = c.requires.0 in
+    let l = c.requires in
     let f = first_codes _ [] c.lex-count.ensures l.few_tokens
     (omega (
       arith,
@@ -43,14 +40,13 @@ read_tokens-requires c =
       ordered = (
         l.ordered,
         l.sized,
-        c.requires.1,
       );
     }
 
 pub returns : goal.returns
 returns c =
-    let l = c.requires.0 in
-    few_tried _ _ c.lex-count.ensures l.few_tokens _ c.read_tokens.result _ _ _ (omega (
+    let l = c.requires in
+    few_tried _ _ c.lex-count.ensures l.few_tokens _ c.read_tokens.result _ _ (omega (
       arith,
       c.lex-count.ensures.same,
       c.if-tokens-count.false,

@@ -7,6 +7,6 @@ pub returns-then-redex-eq-WRITE : goal.returns-then-redex-eq-WRITE
 unfolding changes_by
 returns-then-redex-eq-WRITE c = simp (eq-eqb _ _ c.if-redex-eq-WRITE.true)
 
-pub returns : goal.returns
+pub returns-else-redex-eq-WRITE : goal.returns-else-redex-eq-WRITE
 unfolding changes_by
-returns c = simp (ne_eqb _ _ c.if-redex-eq-WRITE.false)
+returns-else-redex-eq-WRITE c = simp (ne_eqb _ _ c.if-redex-eq-WRITE.false)

@@ -3,8 +3,8 @@ use native.Mathlib.Omega.{arith}
 use mathlib.Core.Path.{sym, ap, ◌∙◌}
 use borrow.Author.Rules.{rules}
 use Rattle.run_last_pick.specs.declared.RecordBytes.{RecordBytes}
-use Rattle.run_last_pick.specs.declared.Previewed.{Previewed}
-use Rattle.run_last_pick.specs.declared.Previewed.TheVariants as previewed
+use Rattle.run_last_pick.specs.declared.Preview.{Preview}
+use Rattle.run_last_pick.specs.declared.Preview.TheVariants as previewed
 use Rattle.run_last_pick.proofs.LastPick.{early, full, raced, passed, moved, recorded}
 use Rattle.run_last_pick.proofs.last_pick.Goals as goal
 

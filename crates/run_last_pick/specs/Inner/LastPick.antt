@@ -5,8 +5,8 @@ use Rattle.run_outcome.specs.declared.Stop.TheVariants as stop
 use Rattle.run_outcome.specs.declared.Outcome.{Outcome}
 use Rattle.run_open_threads.specs.Inner.Open.{absent}
 use Rattle.run_last_pick.specs.declared.RecordBytes.{RecordBytes}
-use Rattle.run_last_pick.specs.declared.Previewed.{Previewed}
-use Rattle.run_last_pick.specs.declared.Previewed.TheVariants as previewed
+use Rattle.run_last_pick.specs.declared.Preview.{Preview}
+use Rattle.run_last_pick.specs.declared.Preview.TheVariants as previewed
 
 -- the bytes of record i
 abbrev pub record_in : List ℕ → ℕ → RecordBytes
@@ -16,20 +16,20 @@ abbrev pub last_record : List ℕ → Outcome → RecordBytes
 last_record log o = record_in log (o.records - 1)
 
 -- a run that did not stop, with so many moves and records before its last pick, which was passed over, or moved without a record, or with one
-unfoldable pub last_ended : Outcome → ℕ → ℕ → ℕ → List ℕ → Previewed
+unfoldable pub last_ended : Outcome → ℕ → ℕ → ℕ → List ℕ → Preview
 last_ended o moves records pick log =
     cond (eqb o.moves moves)
     (previewed.Passed (get_or o.threads pick absent).state)
     (cond (eqb o.records records) previewed.Moved (previewed.Recorded (last_record log o)))
 
 -- a run that dealt with every pick before the last
-unfoldable pub last_met : Outcome → ℕ → ℕ → ℕ → List ℕ → Stop → Previewed
+unfoldable pub last_met : Outcome → ℕ → ℕ → ℕ → List ℕ → Stop → Preview
 unfolding last_ended
 last_met o moves records pick log stop.End = last_ended o moves records pick log
 last_met o moves records pick log stop.Race = previewed.Race (last_record log o)
 last_met o moves records pick log (stop.NoRoom k) = previewed.NoRoom k
 
-unfoldable pub last_pick : Outcome → ℕ → ℕ → ℕ → ℕ → List ℕ → Previewed
+unfoldable pub last_pick : Outcome → ℕ → ℕ → ℕ → ℕ → List ℕ → Preview
 unfolding last_met
 last_pick o moves records before pick log = cond (ltb o.picks before) (previewed.Stopped o.stop) (last_met o moves records pick log o.stop)
 

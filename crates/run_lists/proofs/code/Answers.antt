@@ -1,9 +1,7 @@
 -- `code` meets its contract. Assumes nothing.
-use mathlib.Core.Path.{◌≡◌, sym, ◌∙◌}
 use native.Mathlib.Omega.{arith}
 use borrow.Author.Tests.{eq-eqb, ne_eqb, lt-ltb, le-ltb}
 use Rattle.run_lists.specs.Inner.Lists.{code_by}
-use borrow.Author.Rules.{rules}
 use Rattle.run_lists.proofs.code.Goals as goal
 
 pub returns-then-slot-lt8 : goal.returns-then-slot-lt8

@@ -2,7 +2,6 @@
 use native.Mathlib.Omega.{arith}
 use borrow.Author.Tests.{eq-eqb, ne_eqb}
 use Rattle.run_lists.specs.Inner.Lists.{head_by}
-use borrow.Author.Rules.{rules}
 use Rattle.run_lists.proofs.head.Goals as goal
 
 pub returns-then-tag-eq-LIST : goal.returns-then-tag-eq-LIST

@@ -1,7 +1,6 @@
 -- `next` meets its contract. Assumes nothing.
 use native.Mathlib.Omega.{arith}
 use Rattle.run_lists.specs.Inner.Lists.{code_at, next_at, one_at}
-use borrow.Author.Rules.{rules}
 use Rattle.run_lists.proofs.next.Goals as goal
 
 pub returns-then-valued : goal.returns-then-valued

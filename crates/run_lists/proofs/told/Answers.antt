@@ -1,6 +1,5 @@
 -- `told` meets its contract. Assumes nothing.
 use Rattle.run_lists.proofs.Tells.{put_right}
-use borrow.Author.Rules.{rules}
 use Rattle.run_lists.proofs.told.Goals as goal
 
 pub returns-then-kept-list : goal.returns-then-kept-list

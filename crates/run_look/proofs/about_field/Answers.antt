@@ -7,6 +7,6 @@ pub returns-then-redex-eq-READ : goal.returns-then-redex-eq-READ
 unfolding about_field
 returns-then-redex-eq-READ c = simp (eq-eqb _ _ c.if-redex-eq-READ.true)
 
-pub returns : goal.returns
+pub returns-else-redex-eq-READ : goal.returns-else-redex-eq-READ
 unfolding about_field
-returns c = simp (ne_eqb _ _ c.if-redex-eq-READ.false)
+returns-else-redex-eq-READ c = simp (ne_eqb _ _ c.if-redex-eq-READ.false)

@@ -8,19 +8,17 @@ use Rattle.run_open_threads.proofs.Lowest.{none_more}
 use Rattle.run_open_threads.proofs.open_from.Goals as goal
 
 pub loop-thread-init : goal.loop-thread-init
-loop-thread-init c = (omega arith, omega arith, λ k h b. absurd (omega arith))
+loop-thread-init c k h b = absurd (omega arith)
 
 pub returns-then-is_open : goal.returns-then-is_open
 unfolding open_at
 returns-then-is_open c =
-    let i = c.loop-thread.invariant in
-    record { within = i.1; reached = i.0; here = λ h. sym c.is_open.ensures ∙ c.if-is_open.true; before = i.2 }
+    record { within = omega arith; reached = omega arith; here = λ h. sym c.is_open.ensures ∙ c.if-is_open.true; before = c.loop-thread.invariant }
 
 pub loop-thread-preserved : goal.loop-thread-preserved
 unfolding open_at
 loop-thread-preserved c =
-    let i = c.loop-thread.invariant in
-    (omega arith, omega arith, none_more _ _ _ i.2 (sym c.is_open.ensures ∙ c.if-is_open.false))
+    none_more _ _ _ c.loop-thread.invariant (sym c.is_open.ensures ∙ c.if-is_open.false)
 
 pub returns : goal.returns
-returns c = record { within = search rules; reached = search rules; here = λ h. absurd (omega arith); before = c.loop-thread.invariant.2 }
+returns c = record { within = omega arith; reached = omega arith; here = λ h. absurd (omega arith); before = λ k a b. c.loop-thread.invariant k a (omega arith) }

@@ -9,7 +9,4 @@ use Rattle.run_open_threads.proofs.Lowest.{none_more}
 use Rattle.run_open_threads.proofs.open_from.Given as goal
 
 abbrev pub invariant-loop-thread : goal.invariant-loop-thread
-invariant-loop-thread l = (l.from ≤ l.thread) × (l.thread ≤ 8) × ((k : ℕ) → l.from ≤ k → k < l.thread → open_at l.threads k ≡ false)
-
-abbrev pub decreases-loop-thread : goal.decreases-loop-thread
-decreases-loop-thread l = 8 - l.thread
+invariant-loop-thread l = (k : ℕ) → l.from ≤ k → k < l.thread → open_at l.threads k ≡ false

@@ -17,22 +17,22 @@ from_here notes count place later here i h b = by (ℕ_discrete (place - 1) i)
     by (no e) = later i (omega (arith, h, e)) b
 
 pub loop-place-init : goal.loop-place-init
-loop-place-init c = (omega arith, λ i a b. absurd (omega arith))
+loop-place-init c i a b = absurd (omega arith)
 
 pub returns-then-pick-lt8 : goal.returns-then-pick-lt8
 returns-then-pick-lt8 c =
     record {
-      inside = omega (arith, c.loop-place.invariant.0, c.loop-place-test.true);
+      inside = omega arith;
       here = ap (λ (x : ℕ). x % 16) c.wide-pick.ensures.0;
       of_eight = c.if-pick-lt8.true;
-      last = λ i a b. c.loop-place.invariant.1 i (omega arith) b;
+      last = λ i a b. c.loop-place.invariant i (omega arith) b;
     }
 
 pub loop-place-preserved : goal.loop-place-preserved
 loop-place-preserved c =
     let a = c.args in
     let e : 8 ≤ get_or a.notes.now (c.loop-place.place - 1) 0 % 16 = along (λ (x : ℕ). 8 ≤ x % 16) c.wide-pick.ensures.0 c.if-pick-lt8.false in
-    (omega (arith, c.loop-place.invariant.0), from_here a.notes.now a.count c.loop-place.place c.loop-place.invariant.1 e)
+    from_here a.notes.now a.count c.loop-place.place c.loop-place.invariant e
 
 pub returns : goal.returns
-returns c = λ i b. c.loop-place.invariant.1 i (omega (arith, c.loop-place-test.false)) b
+returns c i b = c.loop-place.invariant i (omega arith) b

@@ -9,7 +9,4 @@ use borrow.Author.Rules.{rules}
 use Rattle.run_place_notes.proofs.last_departure.Given as goal
 
 abbrev pub invariant-loop-place : goal.invariant-loop-place
-invariant-loop-place l = (l.place ≤ l.count) × ((i : ℕ) → l.place ≤ i → i < l.count → 8 ≤ get_or l.notes i 0 % 16)
-
-abbrev pub decreases-loop-place : goal.decreases-loop-place
-decreases-loop-place l = l.place
+invariant-loop-place l = (i : ℕ) → l.place ≤ i → i < l.count → 8 ≤ get_or l.notes i 0 % 16

@@ -8,7 +8,4 @@ use Rattle.run_place_notes.proofs.Put.{put_none, put_one_lem}
 use Rattle.run_place_notes.proofs.put_noted.Given as goal
 
 abbrev pub invariant-loop-place : goal.invariant-loop-place
-invariant-loop-place l = (l.from ≤ l.place) × (l.place ≤ l.made) × PutNoted l.notes l.place l.from l.initial.area l.area
-
-abbrev pub decreases-loop-place : goal.decreases-loop-place
-decreases-loop-place l = l.made - l.place
+invariant-loop-place l = PutNoted l.notes l.place l.from l.initial.area l.area

@@ -1,10 +1,9 @@
 -- Notes, a byte to each place of a run: 16 times the lowest thread that can be picked there, and the lowest above the pick, or 8. For inner contracts; no
 -- reader of the entries' promises needs it. Assumes nothing.
-use Rattle.std.specs.Prelude.{ℕ, ◌+◌, ◌*◌, ◌/◌, ◌%◌, ◌≤◌, ◌<◌, ◌≡◌, List, length, get_or, take, drop}
+use Rattle.std.specs.Prelude.{ℕ, ◌+◌, ◌*◌, ◌/◌, ◌%◌, ◌≤◌, ◌<◌, ◌≡◌, List, length, get_or, take, drop, Option, Some, None}
 use Rattle.run_outcome.specs.declared.Thread.{Thread}
 use Rattle.run_open_threads.specs.Inner.Open.{open_at, LowestFrom}
 use Rattle.run_place_notes.specs.declared.Departure.{Departure}
-use Rattle.run_place_notes.specs.declared.Departure.TheVariants as turn
 
 -- ---- one note
 
@@ -39,6 +38,6 @@ pub record LastAt (notes : List ℕ) (count place pick : ℕ) : Type 0 where
   pub last : (i : ℕ) → place < i → i < count → 8 ≤ get_or notes i 0 % 16
 
 -- that, or none has
-abbrev pub LastDeparture : List ℕ → ℕ → Departure → Type 0
-LastDeparture notes count (turn.At place pick) = LastAt notes count place pick
-LastDeparture notes count turn.Over = (i : ℕ) → i < count → 8 ≤ get_or notes i 0 % 16
+abbrev pub LastDeparture : List ℕ → ℕ → Option Departure → Type 0
+LastDeparture notes count (Some d) = LastAt notes count d.place d.pick
+LastDeparture notes count None = (i : ℕ) → i < count → 8 ≤ get_or notes i 0 % 16

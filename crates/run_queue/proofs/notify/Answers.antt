@@ -1,20 +1,18 @@
-use mathlib.Core.Path.{◌≡◌, refl, sym, ap, ◌∙◌}
-use Prim.Native.Nat.{◌≤◌, ◌-◌}
+use mathlib.Core.Path.{refl, sym, ◌∙◌}
 use native.Mathlib.Omega.{arith}
-use lib.ListN.{length, length-set}
 use Rattle.run_queue.specs.Inner.Queue.{nearer, notified_of}
 use Rattle.run_queue.proofs.Places.{changed_from, changed_next, changed_all}
 use borrow.Author.Rules.{rules}
 use Rattle.run_queue.proofs.notify.Goals as goal
 
-pub loop-i-init : goal.loop-i-init
+pub loop-place-init : goal.loop-place-init
 unfolding changed_from notified_of
-loop-i-init c = (refl, refl, refl)
+loop-place-init c = refl
 
-pub loop-i-preserved : goal.loop-i-preserved
-loop-i-preserved c =
-    let r = changed_next (nearer c.args.object) c.loop-i.i c.loop-i.places (omega arith) in
-    (simp (length-set) c.loop-i.invariant.0, simp (length-set) c.loop-i.invariant.1, rw c.nearer.ensures r ∙ c.loop-i.invariant.2)
+pub loop-place-preserved : goal.loop-place-preserved
+loop-place-preserved c =
+    let l = c.loop-place in
+    let r = changed_next (nearer c.args.object) l.place-index l.places (omega arith) in rw c.nearer.ensures r ∙ l.invariant
 
 pub returns : goal.returns
-returns c = sym (changed_all (nearer c.args.object) c.loop-i.i c.loop-i.places (omega arith)) ∙ c.loop-i.invariant.2
+returns c = let l = c.loop-place in sym (changed_all (nearer c.args.object) l.place-index l.places (omega arith)) ∙ l.invariant

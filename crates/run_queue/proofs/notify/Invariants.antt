@@ -1,16 +1,8 @@
 -- `notify` meets its contract. The loop's invariant: once the places from here on are changed too, all are. Assumes nothing.
-use mathlib.Core.Path.{◌≡◌, refl, sym, ap, ◌∙◌}
-use Prim.Native.Nat.{◌≤◌, ◌-◌}
-use native.Mathlib.Omega.{arith}
-use lib.ListN.{length, length-set}
+use mathlib.Core.Path.{◌≡◌}
 use Rattle.run_queue.specs.Inner.Queue.{nearer, notified_of}
-use Rattle.run_queue.proofs.Places.{changed_from, changed_next, changed_all}
-use borrow.Author.Rules.{rules}
+use Rattle.run_queue.proofs.Places.{changed_from}
 use Rattle.run_queue.proofs.notify.Given as goal
 
-abbrev pub invariant-loop-i : goal.invariant-loop-i
-invariant-loop-i l =
-    (l.i-end ≡ length l.places) × (length l.places ≡ length l.initial.places) × (changed_from (nearer l.object) l.i l.places ≡ notified_of l.object l.initial.places)
-
-abbrev pub decreases-loop-i : goal.decreases-loop-i
-decreases-loop-i l = l.i-end - l.i
+abbrev pub invariant-loop-place : goal.invariant-loop-place
+invariant-loop-place l = changed_from (nearer l.object) l.place-index l.places ≡ notified_of l.object l.initial.places

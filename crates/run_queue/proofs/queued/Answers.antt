@@ -7,6 +7,6 @@ pub returns-then-object-place : goal.returns-then-object-place
 unfolding queued_on
 returns-then-object-place c = simp (eq-eqb _ _ c.if-object-place.true)
 
-pub returns : goal.returns
+pub returns-else-object-place : goal.returns-else-object-place
 unfolding queued_on
-returns c = simp (ne_eqb _ _ c.if-object-place.false)
+returns-else-object-place c = simp (ne_eqb _ _ c.if-object-place.false)

@@ -1,16 +1,13 @@
 -- `refusal_with` meets its contract. Assumes nothing.
-use borrow.Author.Rules.{rules}
-use Rattle.plan_refusals.proofs.Stages.{passed_refused}
+use mathlib.Core.Path.{refl}
+use Rattle.std.proofs.lemmas.Result.{err_from_is_err_and}
 use Rattle.run_refusals.proofs.RefusalChain.{by_plan, by_picks}
 use Rattle.run_refusals.proofs.refusal_with.Goals as goal
 
-pub load-checked-requires : goal.load-checked-requires
-load-checked-requires c = c.requires
+pub returns-in_err-load-clause-result_value : goal.returns-in_err-load-clause-result_value
+returns-in_err-load-clause-result_value c =
+    let p = err_from_is_err_and c.from_residual.result c.from_residual.ensures.1 in
+    rw (p.1, p.2) (by_plan _ _ _ _ c.in_err-load.ensures.result_value refl)
 
-pub returns-in_default : goal.returns-in_default
-returns-in_default c = record { result_value = by_plan _ _ _ _ _ c.load-checked.ensures.result_value c.in_default.is; loaded = λ q. passed_refused q c.in_default.is }
-
-pub returns : goal.returns
-returns c =
-    let l = c.load-checked in
-    let e = c.in-Passed.is in record { result_value = by_picks _ _ _ c.picks_refusal_with.result l.ensures.result_value e c.picks_refusal_with.ensures; loaded = λ q. l.ensures.loaded e }
+pub returns-clause-result_value : goal.returns-clause-result_value
+returns-clause-result_value c = by_picks _ _ _ c.picks_refusal_with.result c.in_ok-load.ensures.result_value refl c.picks_refusal_with.ensures

@@ -11,17 +11,17 @@ use Rattle.rules.specs.Play.{wrong_pick}
 use Rattle.run_schedule_refusals.proofs.lowest_wrong_pick.Goals as goal
 
 pub loop-i-init : goal.loop-i-init
-loop-i-init c = (search rules, λ k h. absurd (omega arith))
+loop-i-init c k h = absurd (omega arith)
 
-pub returns-then-schedule-i-gt7 : goal.returns-then-schedule-i-gt7
+pub returns-then-pick-gt7 : goal.returns-then-pick-gt7
 unfolding wrong_pick
-returns-then-schedule-i-gt7 c =
+returns-then-pick-gt7 c =
     let l = c.loop-i in
-    found (wrong_pick c.args.schedule.now) _ _ (search rules) (lt-ltb 7 _ c.if-schedule-i-gt7.true) l.invariant.1
+    found (wrong_pick c.args.schedule.now) _ _ (search rules) (lt-ltb 7 _ c.if-pick-gt7.true) l.invariant
 
 pub loop-i-preserved : goal.loop-i-preserved
 unfolding wrong_pick
-loop-i-preserved c = let l = c.loop-i in (search rules, below_more _ _ l.invariant.1 (le-ltb 7 _ c.if-schedule-i-gt7.false))
+loop-i-preserved c = below_more _ _ c.loop-i.invariant (le-ltb 7 _ c.if-pick-gt7.false)
 
 pub returns : goal.returns
-returns c = let l = c.loop-i in found_none (wrong_pick c.args.schedule.now) _ _ (search rules) (search rules) l.invariant.1
+returns c = let l = c.loop-i in found_none (wrong_pick c.args.schedule.now) _ _ (search rules) (search rules) (λ k h. l.invariant k (omega arith))

@@ -12,7 +12,4 @@ use Rattle.rules.specs.Play.{wrong_pick}
 use Rattle.run_schedule_refusals.proofs.lowest_wrong_pick.Given as goal
 
 abbrev pub invariant-loop-i : goal.invariant-loop-i
-invariant-loop-i l = (l.i ≤ length l.schedule) × ((k : ℕ) → k < l.i → wrong_pick l.schedule k ≡ false)
-
-abbrev pub decreases-loop-i : goal.decreases-loop-i
-decreases-loop-i l = length l.schedule - l.i
+invariant-loop-i l = (k : ℕ) → k < l.i → wrong_pick l.schedule k ≡ false

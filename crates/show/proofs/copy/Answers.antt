@@ -7,11 +7,11 @@ use Prim.Native.Nat.{ℕ}
 use lib.ListN.{length, drop}
 use Rattle.format.specs.Area.{overwrite}
 use Rattle.text.proofs.Added.{added_whole}
-use borrow.Author.Rules.{rules}
+use Rattle.std.specs.Prelude.{Err}
 use Rattle.show.proofs.copy.Goals as goal
 
 pub returns-then-area-text : goal.returns-then-area-text
-returns-then-area-text c = inl (record { short = c.if-area-text.true; kept = refl; refused = refl })
+returns-then-area-text c = inl (record { short = c.if-area-text.true; kept = refl; refused = ap Err c.at.ensures })
 
 pub returns : goal.returns
 unfolding overwrite

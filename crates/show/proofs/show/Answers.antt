@@ -1,48 +1,53 @@
--- `show` meets its contract. Assumes nothing.
+-- `show` meets its contract.
 use native.Mathlib.Omega.{arith}
 use mathlib.Core.Path.{refl}
+use Rattle.std.proofs.lemmas.Result.{err_from_is_err_and}
 use Rattle.plan_refusals.proofs.Stages.{passed_none}
+use Rattle.plan_tokens.proofs.Parts.{plan_few, plan_within}
 use Rattle.show.proofs.Answers.{plan_refused, text_written}
 use Rattle.show.proofs.Tokens.{given}
-use borrow.Author.Rules.{rules}
 use Rattle.show.proofs.show.Goals as goal
 
-pub show_shortest-requires : goal.show_shortest-requires
-show_shortest-requires c = let l = c.load-checked.ensures in (
-  given l.result_value l.loaded c.in-Passed.is,
-  omega arith,
-)
+pub returns-in_err-load-clause-answer : goal.returns-in_err-load-clause-answer
+returns-in_err-load-clause-answer c =
+    let p = err_from_is_err_and c.from_residual.result c.from_residual.ensures.1 in
+    rw (p.1, p.2) (plan_refused _ _ _ _ c.in_err-load.ensures.result_value refl).0
 
-pub returns-then-plan-le60 : goal.returns-then-plan-le60
-returns-then-plan-le60 c =
-    let l = c.load-checked.ensures in let both = text_written _ _ (passed_none _ _ l.result_value c.in-Passed.is) _ _ _ refl c.show_shortest.ensures in record { answer = both.0; area = both.1 }
+pub returns-in_err-load-clause-area : goal.returns-in_err-load-clause-area
+returns-in_err-load-clause-area c = (plan_refused _ _ _ _ c.in_err-load.ensures.result_value refl).1
 
-pub show_short-requires : goal.show_short-requires
-show_short-requires c = let l = c.load-checked.ensures in (
-  given l.result_value l.loaded c.in-Passed.is,
-  omega arith,
-)
+pub show_in-requires-clause-given : goal.show_in-requires-clause-given
+show_in-requires-clause-given c = let l = c.in_ok-load.ensures in let g = given l.result_value refl l.loaded in (g, omega (arith, plan_within _ _ g))
 
-pub returns-then-plan-le210 : goal.returns-then-plan-le210
-returns-then-plan-le210 c =
-    let l = c.load-checked.ensures in let both = text_written _ _ (passed_none _ _ l.result_value c.in-Passed.is) _ _ _ refl c.show_short.ensures in record { answer = both.0; area = both.1 }
+pub show_in-requires-in-61-to-210-clause-given : goal.show_in-requires-in-61-to-210-clause-given
+show_in-requires-in-61-to-210-clause-given c = let l = c.in_ok-load.ensures in let g = given l.result_value refl l.loaded in (g, omega (arith, plan_within _ _ g))
 
-pub show_middle-requires : goal.show_middle-requires
-show_middle-requires c = let l = c.load-checked.ensures in (
-  given l.result_value l.loaded c.in-Passed.is,
-  omega arith,
-)
+pub show_in-requires-in-211-to-679-clause-given : goal.show_in-requires-in-211-to-679-clause-given
+show_in-requires-in-211-to-679-clause-given c = let l = c.in_ok-load.ensures in let g = given l.result_value refl l.loaded in (g, omega (arith, plan_within _ _ g))
 
-pub returns-then-plan-le679 : goal.returns-then-plan-le679
-returns-then-plan-le679 c =
-    let l = c.load-checked.ensures in let both = text_written _ _ (passed_none _ _ l.result_value c.in-Passed.is) _ _ _ refl c.show_middle.ensures in record { answer = both.0; area = both.1 }
+pub show_in-requires-in_default-clause-given : goal.show_in-requires-in_default-clause-given
+show_in-requires-in_default-clause-given c = let l = c.in_ok-load.ensures in let g = given l.result_value refl l.loaded in (g, plan_few _ _ g)
 
-pub show_long-requires : goal.show_long-requires
-show_long-requires c = let l = c.load-checked.ensures in given l.result_value l.loaded c.in-Passed.is
+pub returns-in-0-to-60-clause-answer : goal.returns-in-0-to-60-clause-answer
+returns-in-0-to-60-clause-answer c = (text_written _ _ (passed_none _ _ c.in_ok-load.ensures.result_value refl) _ _ _ refl c.show_in.ensures).0
 
-pub returns-in-Refused : goal.returns-in-Refused
-returns-in-Refused c = let both = plan_refused _ _ _ _ _ c.load-checked.ensures.result_value c.in-Refused.is in record { answer = both.0; area = both.1 }
+pub returns-in-0-to-60-clause-area : goal.returns-in-0-to-60-clause-area
+returns-in-0-to-60-clause-area c = (text_written _ _ (passed_none _ _ c.in_ok-load.ensures.result_value refl) _ _ _ refl c.show_in.ensures).1
 
-pub returns-else-plan-le679 : goal.returns-else-plan-le679
-returns-else-plan-le679 c =
-    let l = c.load-checked.ensures in let both = text_written _ _ (passed_none _ _ l.result_value c.in-Passed.is) _ _ _ refl c.show_long.ensures in record { answer = both.0; area = both.1 }
+pub returns-in-61-to-210-clause-answer : goal.returns-in-61-to-210-clause-answer
+returns-in-61-to-210-clause-answer c = (text_written _ _ (passed_none _ _ c.in_ok-load.ensures.result_value refl) _ _ _ refl c.show_in-in-61-to-210.ensures).0
+
+pub returns-in-61-to-210-clause-area : goal.returns-in-61-to-210-clause-area
+returns-in-61-to-210-clause-area c = (text_written _ _ (passed_none _ _ c.in_ok-load.ensures.result_value refl) _ _ _ refl c.show_in-in-61-to-210.ensures).1
+
+pub returns-in-211-to-679-clause-answer : goal.returns-in-211-to-679-clause-answer
+returns-in-211-to-679-clause-answer c = (text_written _ _ (passed_none _ _ c.in_ok-load.ensures.result_value refl) _ _ _ refl c.show_in-in-211-to-679.ensures).0
+
+pub returns-in-211-to-679-clause-area : goal.returns-in-211-to-679-clause-area
+returns-in-211-to-679-clause-area c = (text_written _ _ (passed_none _ _ c.in_ok-load.ensures.result_value refl) _ _ _ refl c.show_in-in-211-to-679.ensures).1
+
+pub returns-in_default-clause-answer : goal.returns-in_default-clause-answer
+returns-in_default-clause-answer c = (text_written _ _ (passed_none _ _ c.in_ok-load.ensures.result_value refl) _ _ _ refl c.show_in-in_default.ensures).0
+
+pub returns-in_default-clause-area : goal.returns-in_default-clause-area
+returns-in_default-clause-area c = (text_written _ _ (passed_none _ _ c.in_ok-load.ensures.result_value refl) _ _ _ refl c.show_in-in_default.ensures).1

@@ -1,7 +1,6 @@
 -- `write` meets its contract. Assumes nothing.
 use native.Mathlib.Omega.{arith}
 use Rattle.show.proofs.Tokens.{room_text}
-use borrow.Author.Rules.{rules}
 use Rattle.show.proofs.write.Goals as goal
 
 pub returns : goal.returns

@@ -1,9 +1,8 @@
 -- `write_marked` meets its contract. Assumes nothing.
-use native.Mathlib.Omega.{arith}
 use mathlib.Core.Path.{refl, ap, ◌∙◌}
 use mathlib.Core.Logic.{inl, inr}
 use lib.ListN as L
-use Rattle.answers.specs.declared.Answered.TheVariants.{Value}
+use Rattle.std.specs.Prelude.{Ok, Err}
 use Rattle.format.proofs.AreaLaws.{overwrite_length}
 use borrow.Author.Rules.{rules}
 use Rattle.show.proofs.write_marked.Goals as goal
@@ -12,7 +11,7 @@ pub measure-length-requires : goal.measure-length-requires
 measure-length-requires c = record { rows_value = c.requires.rows_value; tokens_len_bound = c.requires.tokens_len_bound }
 
 pub returns-then-area-length : goal.returns-then-area-length
-returns-then-area-length c = inl (record { short = rw c.measure-length.ensures.0 at c.if-area-length.true; kept = refl; refused = refl })
+returns-then-area-length c = inl (record { short = rw c.measure-length.ensures.0 at c.if-area-length.true; kept = refl; refused = ap Err c.at.ensures })
 
 pub lay_out-requires : goal.lay_out-requires
 lay_out-requires c =
@@ -29,6 +28,5 @@ returns c =
     inr (record {
       long = rw e at c.if-area-length.false;
       text = c.lay_out.ensures;
-      answer = ap
-          Value e;
+      answer = ap Ok e;
     })

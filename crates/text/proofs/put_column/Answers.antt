@@ -1,6 +1,5 @@
 -- `text::put_column` meets its contract. Assumes nothing.
 use Rattle.text.proofs.Added.{added_more}
-use borrow.Author.Rules.{rules}
 use Rattle.text.proofs.put_column.Goals as goal
 
 pub returns : goal.returns

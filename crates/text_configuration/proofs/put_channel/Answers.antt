@@ -3,7 +3,6 @@ use native.Mathlib.Omega.{arith}
 use Rattle.text.specs.Text.{ascii}
 use Rattle.text.proofs.Added.{added_more, added_as}
 use Rattle.text_configuration.proofs.Parts.{channel_parts, channel_length}
-use borrow.Author.Rules.{rules}
 use Rattle.text_configuration.proofs.put_channel.Goals as goal
 
 pub put_number-at-requires : goal.put_number-at-requires

@@ -1,8 +1,6 @@
-use Prim.Native.Nat.{◌+◌, ◌-◌, ◌*◌, ◌≤◌}
 use native.Mathlib.Numerals.{add-one}
 use native.Mathlib.Omega.{arith}
 use mathlib.Core.Path.{◌≡◌, ap}
-use Rattle.text.specs.Inner.Wrote.{Wrote}
 use Rattle.text.proofs.Added.{added_none, added_more, added_as}
 use Rattle.text_configuration.specs.Configuration.{channel_lines}
 use Rattle.text_configuration.proofs.Parts.{channel_short}

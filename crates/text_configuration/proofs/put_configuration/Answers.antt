@@ -3,7 +3,6 @@ use native.Mathlib.Omega.{arith}
 use Rattle.text.specs.Text.{ascii}
 use Rattle.text.proofs.Added.{added_more, added_as}
 use Rattle.text_configuration.proofs.Parts.{head_is, whole_is}
-use borrow.Author.Rules.{rules}
 use Rattle.text_configuration.proofs.put_configuration.Goals as goal
 
 pub returns : goal.returns

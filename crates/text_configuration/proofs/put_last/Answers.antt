@@ -4,7 +4,6 @@ use Rattle.text.specs.Text.{ascii}
 use Rattle.text.proofs.Decimals.{few_digits}
 use Rattle.text.proofs.Added.{added_more, added_as}
 use Rattle.text_configuration.proofs.Parts.{last_parts}
-use borrow.Author.Rules.{rules}
 use Rattle.text_configuration.proofs.put_last.Goals as goal
 
 pub put_number-at-requires : goal.put_number-at-requires

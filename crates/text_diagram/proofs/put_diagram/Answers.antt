@@ -7,7 +7,6 @@ use Rattle.text.specs.Text.{ascii}
 use Rattle.text.proofs.Added.{added_more, added_as}
 use Rattle.text_diagram_elements.specs.Diagram.{arrows_of, race_of}
 use Rattle.text_diagram.proofs.Whole.{whole_is}
-use borrow.Author.Rules.{rules}
 use Rattle.text_diagram.proofs.put_diagram.Goals as goal
 
 pub put_head-at-requires : goal.put_head-at-requires

@@ -4,7 +4,6 @@ use mathlib.Core.Path.{◌∙◌}
 use Rattle.text.specs.Text.{ascii}
 use Rattle.text.proofs.Added.{added_more}
 use Rattle.text_diagram_elements.specs.Diagram.{segment}
-use borrow.Author.Rules.{rules}
 use Rattle.text_diagram_elements.proofs.put_segment.Goals as goal
 
 pub put_attribute-at-requires-4 : goal.put_attribute-at-requires-4

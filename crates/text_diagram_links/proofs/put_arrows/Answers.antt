@@ -1,4 +1,4 @@
-use Prim.Native.Nat.{ℕ, ◌-◌, ◌*◌, ◌≤◌}
+use Prim.Native.Nat.{ℕ}
 use native.Mathlib.Numerals.{add-one}
 use native.Mathlib.Omega.{arith}
 use mathlib.Core.Path.{◌≡◌, ap}
@@ -6,10 +6,8 @@ use Rattle.log_records.specs.Packed.{log_of}
 use Rattle.text.specs.Text.{ascii}
 use Rattle.text.proofs.Added.{added_as}
 use Rattle.text_diagram_elements.specs.Diagram.{arrow_texts, arrows_of}
-use Rattle.text_diagram_elements.specs.Inner.Drawn.{Drawn}
 use Rattle.text_diagram_elements.proofs.Together.{drawn_none, drawn_more, drawn_as}
 use Rattle.text_diagram_links.proofs.NextArrow.{arrows_next}
-use borrow.Author.Rules.{rules}
 use Rattle.text_diagram_links.proofs.put_arrows.Goals as goal
 
 pub loop-index-init : goal.loop-index-init

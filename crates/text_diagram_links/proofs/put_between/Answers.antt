@@ -1,7 +1,6 @@
 -- `text_diagram::links::put_between` meets its contract. Assumes nothing.
 use Rattle.text_diagram_elements.proofs.Together.{drawn_as}
 use Rattle.text_diagram_elements.proofs.NextRecord.{between_is}
-use borrow.Author.Rules.{rules}
 use Rattle.text_diagram_links.proofs.put_between.Goals as goal
 
 pub returns : goal.returns

@@ -6,7 +6,6 @@ use Rattle.text.specs.Text.{ascii}
 use Rattle.text.proofs.Added.{added_as}
 use Rattle.text_diagram_elements.specs.Diagram.{race_of}
 use Rattle.text_diagram_elements.proofs.Races.{colour_is}
-use borrow.Author.Rules.{rules}
 use Rattle.text_diagram_rows.proofs.put_colour.Goals as goal
 
 pub returns-then-in_race : goal.returns-then-in_race
@@ -19,12 +18,12 @@ returns-then-in_race c =
       short = omega (arith, c.put_word.ensures.next);
     }
 
-pub returns : goal.returns
+pub returns-else-in_race : goal.returns-else-in_race
 unfolding ascii
-returns c =
+returns-else-in_race c =
     record {
       wrote = added_as (colour_is (race_of c.args.race)
           c.args.index false (sym c.if-in_race.false
-          ∙ c.in_race.ensures)) c.put_word-2.ensures;
-      short = omega (arith, c.put_word-2.ensures.next);
+          ∙ c.in_race.ensures)) c.put_word-else-in_race.ensures;
+      short = omega (arith, c.put_word-else-in_race.ensures.next);
     }

@@ -3,7 +3,6 @@ use native.Mathlib.Omega.{arith}
 use Rattle.text.specs.Text.{ascii}
 use Rattle.text.proofs.Added.{added_more}
 use Rattle.text_diagram_elements.specs.Diagram.{mark_text}
-use borrow.Author.Rules.{rules}
 use Rattle.text_diagram_rows.proofs.put_mark.Goals as goal
 
 pub returns : goal.returns

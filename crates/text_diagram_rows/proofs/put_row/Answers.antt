@@ -4,7 +4,6 @@ use mathlib.Core.Path.{◌∙◌}
 use Rattle.text.specs.Text.{ascii}
 use Rattle.text.proofs.Added.{added_more}
 use Rattle.text_diagram_elements.specs.Diagram.{row_text}
-use borrow.Author.Rules.{rules}
 use Rattle.text_diagram_rows.proofs.put_row.Goals as goal
 
 pub put_words-at-requires : goal.put_words-at-requires

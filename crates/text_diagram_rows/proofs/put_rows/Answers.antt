@@ -1,17 +1,12 @@
-use Prim.Native.Nat.{◌-◌, ◌*◌, ◌/◌, ◌≤◌}
 use native.Mathlib.Numerals.{add-one}
 use native.Mathlib.Omega.{arith}
 use mathlib.Core.Path.{ap}
 use mathlib.Core.List.{List}
-use lib.ListN.{length, take}
 use Rattle.log_records.specs.Record.{Record}
-use Rattle.log_records.specs.Packed.{log_of}
 use Rattle.text.proofs.Added.{added_as}
 use Rattle.text_diagram_elements.specs.Diagram.{row_texts, race_of}
-use Rattle.text_diagram_elements.specs.Inner.Drawn.{Drawn}
 use Rattle.text_diagram_elements.proofs.Together.{drawn_none, drawn_more, drawn_as}
 use Rattle.text_diagram_elements.proofs.NextRecord.{all_taken, rows_next}
-use borrow.Author.Rules.{rules}
 use Rattle.text_diagram_rows.proofs.put_rows.Goals as goal
 
 pub loop-index-init : goal.loop-index-init

@@ -4,7 +4,6 @@ use Rattle.text.specs.Text.{ascii}
 use Rattle.text.proofs.Added.{added_more}
 use Rattle.text_record_lines.proofs.FirstRecords.{line_short}
 use Rattle.text_diagram_elements.specs.Diagram.{words_text}
-use borrow.Author.Rules.{rules}
 use Rattle.text_diagram_rows.proofs.put_words.Goals as goal
 
 pub put_record-at-requires : goal.put_record-at-requires

@@ -1,7 +1,7 @@
 -- `text_input_parts::cut_short` meets its contract. Assumes nothing.
 use native.Mathlib.Omega.{arith}
-use mathlib.Core.Path.{sym}
-use borrow.Author.Rules.{rules}
+use mathlib.Core.Path.{sym, ◌∙◌}
+use borrow.Author.Tests.{lt-ltb}
 use Rattle.text_input_parts.proofs.Parts.{cut_early, cut_long, length_is, cut_by}
 use Rattle.text_input_parts.proofs.cut_short.Goals as goal
 
@@ -12,7 +12,7 @@ pub returns-then-length-gt5192 : goal.returns-then-length-gt5192
 returns-then-length-gt5192 c =
     let h = c.half-length in
     let n = length_is _ h.result h.ensures.0 in
-    sym (cut_long _ (omega (arith, n)))
+    lt-ltb _ _ c.if-length-gt5192.true ∙ sym (cut_long _ (omega (arith, n)))
 
-pub returns : goal.returns
-returns c = let h = c.half-length in cut_by _ h.result h.ensures.0 (omega arith)
+pub returns-else-length-gt5192 : goal.returns-else-length-gt5192
+returns-else-length-gt5192 c = let h = c.half-length in cut_by _ h.result h.ensures.0 (omega arith)

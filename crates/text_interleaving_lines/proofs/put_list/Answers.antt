@@ -23,16 +23,16 @@ put_digit_line-at-requires c =
     let given = c.requires.1 in
     omega (arith, s.here.few, s.short, s.kept, given, length-take (loop.picks - 0) loop.schedule)
 
-pub advance-step-requires : goal.advance-step-requires
-advance-step-requires c = c.loop-index.invariant.0.here
+pub advance-requires : goal.advance-requires
+advance-requires c = c.loop-index.invariant.0.here
 
 pub loop-index-preserved : goal.loop-index-preserved
 loop-index-preserved c =
     let loop = c.loop-index in
     let s = c.args in
-    let advance = c.advance-step in
+    let advance = c.advance in
     let line = c.put_digit_line-at in
-    let a = along (Advanced s.plan.now s.n loop.schedule loop.picks _) c.in-Following.is advance.ensures in
+    let a = along (Advanced s.plan.now s.n loop.schedule loop.picks _) c.in-Some.is advance.ensures in
     let next = stands_next s.plan.now s.n s.area.now loop.invariant.0 _ _ line.ensures in
     (next _ _ a.0 a.1, omega arith, search rules)
 
@@ -43,13 +43,13 @@ put_count-requires c =
     let room = line_room c.args.plan.now c.args.n c.args.area.now loop.invariant.0 _ _ w in
     omega (arith, room, w.kept, loop.invariant.0.kept, c.requires.1)
 
-pub returns-in-Over : goal.returns-in-Over
-returns-in-Over c =
+pub returns-in_default : goal.returns-in_default
+returns-in_default c =
     let loop = c.loop-index in
     let s = c.args in
-    let advance = c.advance-step in
+    let advance = c.advance in
     let line = c.put_digit_line-at in
-    let e = c.in-Over.is in
+    let e = c.in_default.is in
     let over = along (Advanced s.plan.now s.n loop.schedule loop.picks _) e advance.ensures in
     let told = all_told s.plan.now s.n s.area.now loop.invariant.0 _ _ line.ensures in
     told (omega arith) over _ _ c.put_count.ensures

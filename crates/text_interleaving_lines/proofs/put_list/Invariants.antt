@@ -11,6 +11,3 @@ use Rattle.text_interleaving_lines.proofs.put_list.Given as goal
 abbrev pub invariant-loop-index : goal.invariant-loop-index
 invariant-loop-index l =
     Stands l.plan l.n l.initial.area l.schedule l.picks l.index l.area l.at × (l.index ≤ 8192) × (length l.schedule ≡ length l.initial.schedule)
-
-abbrev pub decreases-loop-index : goal.decreases-loop-index
-decreases-loop-index l = 8192 - l.index

@@ -1,11 +1,8 @@
 -- `text_judge_lines::put_named` meets its contract. Assumes nothing.
-use Prim.Native.Nat.{◌/◌, ◌<◌}
 use native.Mathlib.Omega.{arith}
-use lib.ListN.{length}
 use Rattle.log_arrows.proofs.OfLog.{log_short}
 use Rattle.text_judge_lines.proofs.LastConflicts.{inside}
 use Rattle.text_judge_lines.proofs.Answers.{wrote_conflict}
-use borrow.Author.Rules.{rules}
 use Rattle.text_judge_lines.proofs.put_named.Goals as goal
 
 pub last_conflict-earlier-requires : goal.last_conflict-earlier-requires

@@ -2,7 +2,6 @@
 use Rattle.text.specs.Text.{ascii}
 use Rattle.text.proofs.Added.{added_more}
 use Rattle.text_judge_lines.specs.Told.{ordered_line}
-use borrow.Author.Rules.{rules}
 use Rattle.text_judge_lines.proofs.put_ordered.Goals as goal
 
 pub returns : goal.returns

@@ -1,35 +1,18 @@
--- `plan_text` meets its contract. Assumes nothing.
+-- `plan_text` meets its contract.
 use native.Mathlib.Omega.{arith}
 use Rattle.text.proofs.Added.{added_as}
-use Rattle.text_refusal_lines.proofs.SentenceLines.{lines_short}
 use Rattle.text_answer_lines.proofs.Answers.{check_refused, check_passed, check_none}
 use Rattle.text_plan_words.specs.Texts.{plan_text}
 use Rattle.text_plan_words.proofs.Areas.{plan_few}
-use borrow.Author.Rules.{rules}
 use Rattle.text_plan_words.proofs.plan_text.Goals as goal
 
-pub put_refusal_lines-requires : goal.put_refusal_lines-requires
-put_refusal_lines-requires c =
-    omega (arith, lines_short (record { number = c.in-Refused.number; place = c.in-Refused.place }) (omega arith) (omega arith))
-
 pub put_word-requires : goal.put_word-requires
-put_word-requires c =
-    let check = c.check-checked in
-    let a = c.args in
-    let passed = check_none a.plan.now _ check.result check.ensures c.in-Passed.is in
-    omega (arith, plan_few a.plan.now passed)
+put_word-requires c = omega (arith, plan_few _ (check_none c.args.plan.now _ c.check.result c.check.ensures c.in-Ok.is))
 
-pub returns-in-Refused : goal.returns-in-Refused
+pub returns-in-Err : goal.returns-in-Err
 unfolding plan_text
-returns-in-Refused c =
-    let check = c.check-checked in
-    let a = c.args in
-    added_as (check_refused a.plan.now _ check.result check.ensures c.in-Refused.number c.in-Refused.place c.in-Refused.is) c.put_refusal_lines.ensures
+returns-in-Err c = added_as (check_refused c.args.plan.now _ c.check.result c.check.ensures _ c.in-Err.is) c.put_refusal.ensures
 
-pub returns-in-Passed : goal.returns-in-Passed
+pub returns-in-Ok : goal.returns-in-Ok
 unfolding plan_text
-returns-in-Passed c =
-    let put_word = c.put_word in
-    let check = c.check-checked in
-    let a = c.args in
-    added_as (check_passed a.plan.now _ check.result check.ensures c.in-Passed.is) put_word.ensures
+returns-in-Ok c = added_as (check_passed c.args.plan.now _ c.check.result c.check.ensures c.in-Ok.is) c.put_word.ensures

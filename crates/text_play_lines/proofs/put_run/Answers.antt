@@ -2,8 +2,7 @@
 use native.Mathlib.Omega.{arith}
 use mathlib.Core.Path.{◌≡◌, sym, ◌∙◌}
 use mathlib.Core.Bool.{true≢false}
-use mathlib.Core.List.{◌++◌}
-use lib.ListN.{length, length-append}
+use lib.ListN.{length-append}
 use Rattle.log_records.specs.Packed.{log_of}
 use Rattle.run_outcome.specs.declared.Stop.TheVariants as stop
 use Rattle.play.specs.Answer.{stop_of}
@@ -12,7 +11,6 @@ use Rattle.text_last_lines.specs.Lines.{outcome_line}
 use Rattle.text_last_lines.proofs.LineParts.{outcome_short}
 use Rattle.text.proofs.Added.{added_more}
 use Rattle.text_play_lines.proofs.Lengths.{log_short}
-use borrow.Author.Rules.{rules}
 use Rattle.text_play_lines.proofs.put_run.Goals as goal
 
 pub overflow_sub-records : goal.overflow_sub-records

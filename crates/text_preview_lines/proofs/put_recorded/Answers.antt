@@ -5,7 +5,6 @@ use Rattle.text.proofs.Added.{added_more, added_as}
 use Rattle.text_phrases.specs.Phrase.{phrase}
 use Rattle.text_phrase_pairs.proofs.Digits.{wide_digits}
 use Rattle.text_preview_lines.proofs.LineParts.{recorded_parts}
-use borrow.Author.Rules.{rules}
 use Rattle.text_preview_lines.proofs.put_recorded.Goals as goal
 
 pub put_phrase-at-requires : goal.put_phrase-at-requires

@@ -4,7 +4,6 @@ use Rattle.play.specs.Answer.{stop_of}
 use Rattle.text.specs.Text.{ascii}
 use Rattle.text.proofs.Added.{added_more, added_as}
 use Rattle.text_preview_lines.proofs.LineParts.{stopped_parts}
-use borrow.Author.Rules.{rules}
 use Rattle.text_preview_lines.proofs.put_stopped.Goals as goal
 
 pub put_byte-requires : goal.put_byte-requires

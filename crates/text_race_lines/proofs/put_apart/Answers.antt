@@ -4,7 +4,6 @@ use Rattle.text.specs.Text.{ascii}
 use Rattle.text.proofs.Added.{added_more, added_as}
 use Rattle.text_phrases.specs.Phrase.{phrase}
 use Rattle.text_race_lines.proofs.LineParts.{apart_parts, apart_length}
-use borrow.Author.Rules.{rules}
 use Rattle.text_race_lines.proofs.put_apart.Goals as goal
 
 pub put_phrase-at-requires : goal.put_phrase-at-requires

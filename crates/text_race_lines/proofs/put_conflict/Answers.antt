@@ -3,7 +3,6 @@ use native.Mathlib.Omega.{arith}
 use Rattle.text_record_lines.specs.Inner.Columns.{record_of}
 use Rattle.text.proofs.Added.{added_more, added_as}
 use Rattle.text_race_lines.proofs.LineParts.{apart_short, access_short, other_short, conflict_parts}
-use borrow.Author.Rules.{rules}
 use Rattle.text_race_lines.proofs.put_conflict.Goals as goal
 
 pub put_access-at-requires : goal.put_access-at-requires

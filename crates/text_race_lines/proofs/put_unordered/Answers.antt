@@ -1,12 +1,9 @@
 -- `text_race_lines::put_unordered` meets its contract. Assumes nothing.
-use Prim.Native.Nat.{◌/◌, ◌<◌}
 use native.Mathlib.Omega.{arith}
-use lib.ListN.{length}
 use Rattle.text_record_lines.specs.Inner.Columns.{record_of}
 use Rattle.text.proofs.Added.{added_more, added_as}
 use Rattle.text_race_lines.proofs.LineParts.{apart_short, lack_short}
 use Rattle.text_race_lines.proofs.Records.{unordered_text}
-use borrow.Author.Rules.{rules}
 use Rattle.text_race_lines.proofs.put_unordered.Goals as goal
 
 pub put_lack-at-requires : goal.put_lack-at-requires

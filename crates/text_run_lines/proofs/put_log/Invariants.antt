@@ -16,6 +16,3 @@ use Rattle.text_run_lines.proofs.put_log.Given as goal
 
 abbrev pub invariant-loop-index : goal.invariant-loop-index
 invariant-loop-index l = (l.index ≤ length l.log / 3) × (l.at ≤ 28 * l.index) × Wrote l.initial.area 0 (record_lines 0 (records_from l.log 0 l.index)) l.area l.at
-
-abbrev pub decreases-loop-index : goal.decreases-loop-index
-decreases-loop-index l = length l.log / 3 - l.index

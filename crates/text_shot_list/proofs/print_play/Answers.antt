@@ -5,22 +5,15 @@ use lib.ListN.{length-take}
 use Rattle.play.proofs.Ran.{few_records, within}
 use Rattle.text_shot_list.specs.Printed.{lent_area}
 use Rattle.text.proofs.Added.{added_as}
-use Rattle.text_refusal_lines.proofs.LineParts.{refusal_short}
 use Rattle.text_shot_list.proofs.Answers.{refused_text, ran_text}
-use borrow.Author.Rules.{rules}
 use Rattle.text_shot_list.proofs.print_play.Goals as goal
-
-pub put_refusal-requires : goal.put_refusal-requires
-put_refusal-requires c =
-    let k = c.in-Refused in
-    omega (arith, refusal_short (record { number = k.number; place = k.place }) (omega arith) (omega arith))
 
 pub record_bytes-end-requires : goal.record_bytes-end-requires
 unfolding lent_area
 record_bytes-end-requires c =
     let a = c.args in
     let p = c.play-played in
-    let e = c.in-Passed.is in
+    let e = c.in-Ok.is in
     few_records a.plan.now a.schedule.now lent_area p.result p.ensures.answer e
 
 pub slice_bounds-put_run-end : goal.slice_bounds-put_run-end
@@ -28,7 +21,7 @@ unfolding lent_area
 slice_bounds-put_run-end c =
     let a = c.args in
     let p = c.play-played in
-    let e = c.in-Passed.is in
+    let e = c.in-Ok.is in
     let r = c.record_bytes-end in
     within a.plan.now a.schedule.now lent_area p.result p.ensures.answer e p.new.log p.ensures.area r.result
     (omega (arith, r.ensures))
@@ -38,26 +31,24 @@ unfolding lent_area
 put_run-requires c =
     let a = c.args in
     let p = c.play-played in
-    let e = c.in-Passed.is in
+    let e = c.in-Ok.is in
     let r = c.record_bytes-end in
     let few = few_records a.plan.now a.schedule.now lent_area p.result p.ensures.answer e in
     (omega (arith, few, r.ensures, length-take (r.result - 0) p.new.log), omega arith)
 
-pub returns-in-Refused : goal.returns-in-Refused
+pub returns-in-Err : goal.returns-in-Err
 unfolding lent_area
-returns-in-Refused c =
+returns-in-Err c =
     let a = c.args in
     let p = c.play-played in
-    let k = c.in-Refused in
-    added_as (refused_text a.plan.now a.schedule.now p.result p.ensures.answer k.number k.place k.is)
-    c.put_refusal.ensures
+    added_as (refused_text a.plan.now a.schedule.now p.result p.ensures.answer c.in-Err.refusal c.in-Err.is) c.put_refusal.ensures
 
-pub returns-in-Passed : goal.returns-in-Passed
+pub returns-in-Ok : goal.returns-in-Ok
 unfolding lent_area
-returns-in-Passed c =
+returns-in-Ok c =
     let a = c.args in
     let p = c.play-played in
-    let e = c.in-Passed.is in
+    let e = c.in-Ok.is in
     let r = c.record_bytes-end in
     added_as (ran_text a.plan.now a.schedule.now p.result p.ensures.answer e p.new.log p.ensures.area r.result r.ensures)
     c.put_run.ensures

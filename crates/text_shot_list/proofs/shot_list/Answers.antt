@@ -1,22 +1,20 @@
 -- `text_shot_list::shot_list` meets its contract. Assumes nothing.
 use native.Mathlib.Omega.{arith}
 use mathlib.Core.Path.{refl, sym, ◌∙◌}
-use Rattle.text_refusal_lines.proofs.LineParts.{refusal_short}
 use Rattle.text_shot_list.proofs.Inputs.{cut_text, parts_text, finished}
-use borrow.Author.Rules.{rules}
 use Rattle.text_shot_list.proofs.shot_list.Goals as goal
 
 pub returns-then-area-lt131072 : goal.returns-then-area-lt131072
 returns-then-area-lt131072 c = (λ q. absurd (omega arith), λ q. (refl, refl))
 
 pub put_refusal-requires : goal.put_refusal-requires
-put_refusal-requires c = omega (arith, refusal_short (record { number = 1; place = 0 }) (omega arith) (omega arith))
+put_refusal-requires c = omega arith
 
 pub returns-then-cut_short : goal.returns-then-cut_short
 returns-then-cut_short c =
     let a = c.args in
     let cut = sym c.cut_short.ensures ∙ c.if-cut_short.true in
-    finished a.input.now (omega arith) (cut_text a.input.now cut) c.put_refusal.ensures
+    finished a.input.now (omega arith) (cut_text a.input.now cut) (rw c.at.ensures at c.put_refusal.ensures)
 
 pub plan_of-plan-requires : goal.plan_of-plan-requires
 plan_of-plan-requires c = sym c.cut_short.ensures ∙ c.if-cut_short.false

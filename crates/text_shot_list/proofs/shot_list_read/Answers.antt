@@ -3,7 +3,6 @@ use native.Mathlib.Omega.{arith}
 use mathlib.Core.Path.{sym, ◌∙◌}
 use lib.Seq.{take_all, length-take-le}
 use Rattle.text_shot_list.proofs.FirstBytes.{same_text}
-use borrow.Author.Rules.{rules}
 use Rattle.text_shot_list.proofs.shot_list_read.Goals as goal
 
 pub slice_bounds-shot_list-end : goal.slice_bounds-shot_list-end

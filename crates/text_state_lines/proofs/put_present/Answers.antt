@@ -6,7 +6,6 @@ use Rattle.text.proofs.Added.{added_more, added_as}
 use Rattle.text_phrases.specs.Phrase.{phrase}
 use Rattle.text_phrase_pairs.proofs.Digits.{wide_digits}
 use Rattle.text_state_lines.proofs.LineParts.{present_parts}
-use borrow.Author.Rules.{rules}
 use Rattle.text_state_lines.proofs.put_present.Goals as goal
 
 pub put_phrase-at-requires : goal.put_phrase-at-requires

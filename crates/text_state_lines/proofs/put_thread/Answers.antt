@@ -3,7 +3,6 @@ use native.Mathlib.Omega.{arith}
 use mathlib.Core.Path.{sym, ◌∙◌}
 use Rattle.text.proofs.Added.{added_none, added_as}
 use Rattle.text_state_lines.proofs.LineParts.{absent_line, present_line_lem}
-use borrow.Author.Rules.{rules}
 use Rattle.text_state_lines.proofs.put_thread.Goals as goal
 
 pub returns-then-absent : goal.returns-then-absent

@@ -18,14 +18,14 @@ use Rattle.waveform.proofs.comtrade.Goals.{Else-wrong-count}
 pub returns-then-wrong_length : goal.returns-then-wrong_length
 returns-then-wrong_length c =
     let a = c.args in let both = answers.turned_away a.log.now a.area.now
-    (answers.refused_log a.log.now a.area.now (refused_length a.log.now (sym c.if-wrong_length.true ∙ c.wrong_length.ensures))) in record { answer = both.0; area = both.1 }
+    (answers.refused_log a.log.now a.area.now (refused_length a.log.now (sym c.if-wrong_length.true ∙ c.wrong_length.ensures))) in rw c.at.ensures (record { answer = both.0; area = both.1 })
 
 pub returns-then-wrong-count : goal.returns-then-wrong-count
 returns-then-wrong-count c =
     let a = c.args in let both = answers.turned_away a.log.now a.area.now
     (answers.refused_log a.log.now a.area.now
     (refused_record a.log.now c.lowest_wrong-wrong.result (sym c.if-wrong_length.false ∙ c.wrong_length.ensures)
-    c.lowest_wrong-wrong.ensures c.if-wrong-count.true)) in record { answer = both.0; area = both.1 }
+    c.lowest_wrong-wrong.ensures c.if-wrong-count.true)) in rw c.at-then-wrong-count.ensures (record { answer = both.0; area = both.1 })
 
 -- past both tests nothing refuses the log
 passed : (c : Else-wrong-count) → log_refusal c.args.log.now ≡ none
@@ -44,7 +44,8 @@ unfolding record_count
 returns-then-area-file_length c =
     let a = c.args in let both = answers.turned_away a.log.now a.area.now
     (answers.refused_short a.log.now a.area.now (passed (goal.at.returns-then-area-file_length c).Else-wrong-count)
-    (omega (arith, c.if-area-file_length.true, c.file_length.ensures, file_length a.log.now (few (goal.at.returns-then-area-file_length c).Else-wrong-count)))) in record { answer = both.0; area = both.1 }
+    (omega (arith, c.if-area-file_length.true, c.file_length.ensures, file_length a.log.now (few (goal.at.returns-then-area-file_length c).Else-wrong-count)))) in
+    rw c.at-then-area-file_length.ensures (record { answer = both.0; area = both.1 })
 
 pub put_samples-at-requires : goal.put_samples-at-requires
 unfolding record_count

@@ -1,14 +1,12 @@
-use Prim.Native.Nat.{ℕ, suc, ◌+◌, ◌-◌, ◌/◌, ◌≤◌}
+use Prim.Native.Nat.{ℕ, suc, ◌/◌}
 use native.Mathlib.Numerals.{add-one}
 use native.Mathlib.Omega.{arith}
 use mathlib.Core.Path.{◌≡◌, sym, ap, ◌∙◌}
-use mathlib.Core.List.{List}
 use lib.ListN.{length, length-append, take}
 use Rattle.log_records.specs.Packed.{record_count, log_of}
-use Rattle.text.specs.Inner.Wrote.{Wrote}
 use Rattle.text.proofs.Added.{added_none, added_more, added_as}
 use Rattle.text_sample_lines.specs.DataFile.{sample_line, sample_lines}
-use Rattle.text_sample_lines.specs.Inner.LineEnds.{end_of, line_of}
+use Rattle.text_sample_lines.specs.Inner.LineEnds.{line_of}
 use Rattle.text_sample_lines.proofs.LineEnds.{end_length}
 use Rattle.text_sample_lines.proofs.LineParts.{line_is, line_length, sample_length}
 use Rattle.waveform.proofs.FileLength.{lines_within}

@@ -15,7 +15,7 @@ run-ran-requires c = given c.requires
 
 pub returns-in_default : goal.returns-in_default
 returns-in_default c =
-    not_raced c.requires _ c.run-ran.result c.run-ran.ensures (no_race _ (opened c.in_default.in_default-own.keys2)) _
+    rw c.at.ensures (not_raced c.requires _ c.run-ran.result c.run-ran.ensures (no_race _ (opened c.in_default.in_default-own.keys2)) _)
 
 pub record_bytes-end-requires : goal.record_bytes-end-requires
 record_bytes-end-requires c =

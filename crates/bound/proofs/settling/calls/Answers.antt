@@ -1,5 +1,5 @@
 use mathlib.Core.Path.{◌≡◌, refl, ◌∙◌}
-use Prim.Native.Nat.{ℕ, ◌^◌, ◌-◌, ◌≤◌, ◌<◌}
+use Prim.Native.Nat.{ℕ, ◌^◌, ◌<◌}
 use native.Mathlib.Omega.{arith}
 use lib.ListN.{length, length-set}
 use borrow.Author.Rules.{rules}
@@ -7,13 +7,12 @@ use Rattle.format.proofs.Filled.{filled}
 use Rattle.run_keys.specs.Keys.{holds}
 use Rattle.plan_packed.specs.Trees.{program_of}
 use Rattle.costs.specs.Calls.{called}
-use Rattle.bound.specs.Inner.Settling.{Called}
 use Rattle.bound.proofs.Bodies.{few_procedures, root_there, root_call}
 use Rattle.bound.proofs.Rounds.{set_each, set_small}
 use Rattle.bound.proofs.settling.calls.Goals as goal
 
 pub loop-procedure-init : goal.loop-procedure-init
-loop-procedure-init c = (search rules, refl, record { each = λ p h. absurd (omega arith); small = λ p h. absurd (omega arith) })
+loop-procedure-init c = (refl, record { each = λ p h. absurd (omega arith); small = λ p h. absurd (omega arith) })
 
 pub root-root-requires : goal.root-root-requires
 root-root-requires c = root_there c.requires _ c.loop-procedure-test.true
@@ -32,17 +31,16 @@ loop-procedure-preserved c =
     let l = c.loop-procedure in
     let b = c.args.plan.now in
     let m = few_procedures c.requires in
-    let n : l.procedure < length l.all = rw l.invariant.1 (let t = c.loop-procedure-test.true in omega arith) in
+    let n : l.procedure < length l.all = rw l.invariant.0 (let t = c.loop-procedure-test.true in omega arith) in
     let d = c.bits-bits.ensures in
     let e = set_each d c.requires l.procedure c.loop-procedure-test.true c.root-root.ensures c.walk_expression.ensures in
     let f = set_small d c.requires l.procedure c.loop-procedure-test.true c.root-root.ensures c.walk_expression.ensures in (
-      search rules,
-      length-set l.all l.procedure _ ∙ l.invariant.1,
+      length-set l.all l.procedure _ ∙ l.invariant.0,
       record {
-        each = filled {A = ℕ} l.all l.procedure _ 0 (λ (p x : ℕ). (q : ℕ) → q < 32 → holds x q ≡ called (program_of b) p q) n l.invariant.2.each e;
-        small = filled {A = ℕ} l.all l.procedure _ 0 (λ (p x : ℕ). x < 2 ^ 32) n l.invariant.2.small f;
+        each = filled {A = ℕ} l.all l.procedure _ 0 (λ (p x : ℕ). (q : ℕ) → q < 32 → holds x q ≡ called (program_of b) p q) n l.invariant.1.each e;
+        small = filled {A = ℕ} l.all l.procedure _ 0 (λ (p x : ℕ). x < 2 ^ 32) n l.invariant.1.small f;
       },
     )
 
 pub returns : goal.returns
-returns c = let l = c.loop-procedure in record { each = λ p h. l.invariant.2.each p (omega arith); small = λ p h. l.invariant.2.small p (omega arith) }
+returns c = let l = c.loop-procedure in record { each = λ p h. l.invariant.1.each p (omega arith); small = λ p h. l.invariant.1.small p (omega arith) }

@@ -1,16 +1,18 @@
 -- `is_next`: by the procedure's bit, and then by its calls'.
-use mathlib.Core.Path.{◌≡◌, sym, ap, ◌∙◌}
-use mathlib.Core.Bool.{Bool, true, false, ◌&&◌, not}
+use Prim.Native.Nat.{◌/◌, ◌%◌, ◌^◌}
 use native.Mathlib.Omega.{arith}
-use borrow.Author.Rules.{rules}
 use borrow.Author.Tests.{eq-eqb, ne_eqb}
 use Rattle.run_keys.specs.Keys.{holds, union, subset}
 use Rattle.bound.proofs.settling.is_next.Goals as goal
 
-pub returns-then-done-procedure-eq1 : goal.returns-then-done-procedure-eq1
-unfolding holds
-returns-then-done-procedure-eq1 c = rw (eq-eqb _ _ c.if-done-procedure-eq1.true)
-
-pub returns : goal.returns
+pub returns-then-done-procedure-eq0 : goal.returns-then-done-procedure-eq0
 unfolding holds subset union
-returns c = rw (ne_eqb _ _ c.if-done-procedure-eq1.false)
+returns-then-done-procedure-eq0 c =
+    let t = c.if-done-procedure-eq0.true in
+    rw (ne_eqb (c.args.done / 2 ^ c.args.procedure % 2) 1 (λ e. omega arith))
+
+pub returns-else-done-procedure-eq0 : goal.returns-else-done-procedure-eq0
+unfolding holds
+returns-else-done-procedure-eq0 c =
+    let t = c.if-done-procedure-eq0.false in
+    rw (ne_eqb _ _ t, eq-eqb (c.args.done / 2 ^ c.args.procedure % 2) 1 (omega arith))

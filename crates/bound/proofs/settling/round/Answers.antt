@@ -1,13 +1,11 @@
-use mathlib.Core.Path.{◌≡◌, refl, sym, ◌∙◌, subst}
-use mathlib.Core.List.{List}
-use Prim.Native.Nat.{ℕ, ◌+◌, ◌-◌, ◌*◌, ◌%◌, ◌^◌, ◌≤◌, ◌<◌}
+use mathlib.Core.Path.{◌≡◌, sym, ◌∙◌}
+use Prim.Native.Nat.{◌+◌, ◌-◌, ◌*◌, ◌%◌, ◌^◌}
 use native.Mathlib.Omega.{arith}
-use lib.Bits.{bit_or}
 use borrow.Author.Rules.{rules}
 use Rattle.format.proofs.BitLaws.{shl_one}
 use Rattle.run_keys.specs.Keys.{singleton}
 use Rattle.bound.proofs.Bodies.{few_procedures, root_there, root_call}
-use Rattle.bound.proofs.Rounds.{Going, passes_by, takes_in, round_stuck}
+use Rattle.bound.proofs.Rounds.{passes_by, takes_in, round_stuck}
 use Rattle.bound.proofs.settling.round.Goals as goal
 
 pub loop-procedure-init : goal.loop-procedure-init
@@ -30,8 +28,8 @@ root-root-requires c =
     let i = c.loop-procedure.invariant.inside in
     root_there c.requires.loads _ (let t = c.loop-procedure-test.true in omega arith)
 
-pub walk_expression-cost-requires : goal.walk_expression-cost-requires
-walk_expression-cost-requires c =
+pub walk_expression-requires : goal.walk_expression-requires
+walk_expression-requires c =
     let i = c.loop-procedure.invariant.inside in let both = root_call c.requires.loads _ (let t = c.loop-procedure-test.true in omega arith) c.root-root.ensures in record { ordered = both.0; term_bound = both.1 }
 
 pub offset_bounds-costs-procedure : goal.offset_bounds-costs-procedure
@@ -63,7 +61,7 @@ loop-procedure-preserved-then-is_next c =
     let y = c.loop-procedure.procedure - 1 in
     let e : y + 1 ≡ c.loop-procedure.procedure = omega arith in
     let f : (1 * 2 ^ y) % 2 ^ 64 ≡ singleton y = shl_one y (omega arith) in
-    rw f (takes_in c.requires.loads c.requires.called c.loop-procedure.invariant e c.root-root.ensures c.walk_expression-cost.ensures
+    rw f (takes_in c.requires.loads c.requires.called c.loop-procedure.invariant e c.root-root.ensures c.walk_expression.ensures
     (sym c.is_next.ensures ∙ c.if-is_next.true))
 
 pub loop-procedure-preserved : goal.loop-procedure-preserved

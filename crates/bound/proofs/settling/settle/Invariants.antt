@@ -1,10 +1,6 @@
 -- `settle`: rounds, until one changes nothing.
-use mathlib.Core.Path.{◌≡◌, sym, subst}
-use mathlib.Core.List.{List}
-use Prim.Native.Nat.{ℕ, ◌-◌, ◌^◌}
-use native.Mathlib.Omega.{arith}
+use Prim.Native.Nat.{◌-◌, ◌^◌}
 use Rattle.bound.specs.Inner.Settling.{Settled}
-use Rattle.bound.proofs.Rounds.{none_settled, settled_as}
 use Rattle.bound.proofs.settling.settle.Given as goal
 
 abbrev pub invariant-loop-done : goal.invariant-loop-done

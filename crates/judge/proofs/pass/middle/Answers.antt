@@ -1,11 +1,10 @@
 -- `judge::pass::middle` meets its contract. Assumes nothing.
 use Rattle.judge.proofs.Answered.{answers_found, never_full}
 use mathlib.Core.Logic.{inl}
-use borrow.Author.Rules.{rules}
 use Rattle.judge.proofs.pass.middle.Goals as goal
 
 pub returns : goal.returns
 returns c =
     let p = c.requires in
-    let f = c.by_one_hundred_twenty_eight-found.ensures in
+    let f = c.by_rows-found.ensures in
     answers_found p.accepted f (never_full (inl p.short) f) _ c.judgement.ensures

@@ -1,7 +1,6 @@
 -- `log_arrows::heard::link` meets its contract: its tests are the definition's. Assumes nothing.
 use Rattle.log_arrows.specs.Inner.Links.{link_row}
 use borrow.Author.Tests.{eq-eqb, ne_eqb}
-use borrow.Author.Rules.{rules}
 use Rattle.log_arrows.proofs.heard.link.Goals as goal
 
 pub returns-then-columns-monitor : goal.returns-then-columns-monitor

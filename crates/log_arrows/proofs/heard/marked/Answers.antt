@@ -2,7 +2,6 @@
 use Rattle.log_arrows.proofs.Marked.{stored_mark}
 use borrow.Kind.Array.{e_int, good_length}
 use mir.Syntax.{w16}
-use borrow.Author.Rules.{rules}
 use Rattle.log_arrows.proofs.heard.marked.Goals as goal
 
 pub returns : goal.returns

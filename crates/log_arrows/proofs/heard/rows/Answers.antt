@@ -1,12 +1,11 @@
 use Rattle.format.specs.Version.{version_of}
 use Rattle.log_arrows.specs.Inner.Newest.{HeardRows}
-use Rattle.log_arrows.proofs.Going.{Going, going_start, Here, short, source_below, target_below, next_by}
+use Rattle.log_arrows.proofs.Going.{going_start, Here, short, source_below, target_below, next_by}
 use Rattle.log_records.specs.Packed.{log_of}
-use lib.ListN.{length, length-set}
+use lib.ListN.{length-set}
 use native.Mathlib.Omega.{arith}
-use mathlib.Core.Path.{◌≡◌, refl, subst, ◌∙◌}
-use Prim.Native.Nat.{ℕ, ◌-◌, ◌/◌, ◌≤◌}
-use borrow.Author.Rules.{rules}
+use mathlib.Core.Path.{refl, subst, ◌∙◌}
+use Prim.Native.Nat.{ℕ}
 use Rattle.log_arrows.proofs.heard.rows.Goals as goal
 use Rattle.log_arrows.proofs.heard.rows.Goals.{After-columns_at-columns}
 
@@ -18,11 +17,11 @@ here p =
       below = omega arith;
       read = p.columns_at-columns.ensures;
       room = omega (arith, p.requires.sized);
-      going = p.loop-index.invariant.3;
+      going = p.loop-index.invariant.1;
     }
 
 pub loop-index-init : goal.loop-index-init
-loop-index-init c = (omega arith, refl, refl, going_start (version_of c.args.version) c.args.log.now c.args.heard.now)
+loop-index-init c = (refl, going_start (version_of c.args.version) c.args.log.now c.args.heard.now)
 
 pub source-from-requires : goal.source-from-requires
 source-from-requires c = c.columns_at-columns.ensures.narrow
@@ -94,9 +93,6 @@ offset_bounds-heard-index c = omega (arith, short (here (goal.at.offset_bounds-h
 pub bounds-heard-index : goal.bounds-heard-index
 bounds-heard-index c = (here (goal.at.bounds-heard-index c).After-columns_at-columns).room
 
-pub overflow_add-index-in-loop-index : goal.overflow_add-index-in-loop-index
-overflow_add-index-in-loop-index c = omega (arith, short (here (goal.at.overflow_add-index-in-loop-index c).After-columns_at-columns))
-
 pub loop-index-preserved : goal.loop-index-preserved
 loop-index-preserved c =
     let l = c.loop-index in
@@ -104,9 +100,7 @@ loop-index-preserved c =
     let marked = c.marked-moved in
     let from = c.source-from in
     let to = c.target-to in (
-      omega (arith, c.loop-index-test.true),
-      l.invariant.1,
-      length-set l.heard l.index known.result ∙ l.invariant.2,
+      length-set l.heard l.index known.result ∙ l.invariant.0,
       next_by (here (goal.at.loop-index-preserved c).After-columns_at-columns) from.result to.result known.result marked.result
           c.raised-told.result from.ensures to.ensures known.ensures
           marked.ensures c.raised-told.ensures,
@@ -115,4 +109,4 @@ loop-index-preserved c =
 pub returns : goal.returns
 returns c =
     subst (λ (n : ℕ). HeardRows (version_of c.args.version) (log_of c.args.log.now) n
-    c.loop-index.heard) (omega arith) c.loop-index.invariant.3.done
+    c.loop-index.heard) (omega arith) c.loop-index.invariant.1.done

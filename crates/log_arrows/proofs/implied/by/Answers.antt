@@ -2,7 +2,6 @@
 use Rattle.log_arrows.specs.Inner.Implied.{heard_in}
 use Rattle.log_arrows.proofs.Tests.{by_itself, by_none, by_newest}
 use native.Mathlib.Omega.{arith}
-use borrow.Author.Rules.{rules}
 use Rattle.log_arrows.proofs.implied.by.Goals as goal
 
 pub returns-then-other-thread : goal.returns-then-other-thread

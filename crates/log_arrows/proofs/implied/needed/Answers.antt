@@ -1,7 +1,6 @@
 -- `log_arrows::implied::needed` meets its contract. Assumes nothing.
 use Rattle.log_arrows.specs.Inner.Implied.{heard_in}
 use Rattle.log_arrows.proofs.Tests.{needed_own, needed_none, needed_not_implied}
-use borrow.Author.Rules.{rules}
 use Rattle.log_arrows.proofs.implied.needed.Goals as goal
 
 pub returns-then-thread-own : goal.returns-then-thread-own

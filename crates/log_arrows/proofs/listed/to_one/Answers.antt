@@ -1,14 +1,12 @@
-use Rattle.log_arrows.specs.Inner.Implied.{heard_in, is_needed, Added}
+use Rattle.log_arrows.specs.Inner.Implied.{heard_in, is_needed}
 use Rattle.log_arrows.proofs.Adding.{added_start, needed_some, added_room, added_needed, added_skipped, added_eight}
 use lib.ListN.{length, length-set}
 use native.Mathlib.Omega.{arith}
 use mathlib.Core.Path.{◌≡◌, refl, sym, ap, ◌∙◌}
-use mathlib.Core.Logic.{⊎_elim}
 use mathlib.Core.Bool.{true}
-use Prim.Native.Nat.{◌+◌, ◌-◌, ◌<◌, ◌≤◌}
-use borrow.Author.Rules.{rules}
+use Prim.Native.Nat.{◌+◌, ◌<◌}
 use Rattle.log_arrows.proofs.listed.to_one.Goals as goal
-use Rattle.log_arrows.proofs.listed.to_one.Goals.{Then-needed}
+use Rattle.log_arrows.proofs.listed.to_one.Goals.{Then-needed, then-needed, else-needed}
 
 is_needed_lem : (c : Then-needed) → is_needed (heard_in c.args.rows.now) c.args.own c.args.index c.loop-thread.thread ≡ true
 is_needed_lem c = sym c.needed.ensures ∙ c.if-needed.true
@@ -17,11 +15,10 @@ some_record : (c : Then-needed) → 0 < heard_in c.args.rows.now c.args.index c.
 some_record c = needed_some _ _ _ _ (is_needed_lem c)
 
 room : (c : Then-needed) → c.loop-thread.held < c.args.count + 7
-room c = added_room _ _ _ _ _ _ _ _ _ _ c.loop-thread.invariant.3 (is_needed_lem c) c.requires.own_in (omega arith)
+room c = added_room _ _ _ _ _ _ _ _ _ _ c.loop-thread.invariant.2 (is_needed_lem c) c.requires.own_in (omega arith)
 
 pub loop-thread-init : goal.loop-thread-init
 loop-thread-init c = (
-  omega arith,
   refl,
   refl,
   added_start (heard_in c.args.rows.now) c.args.own c.args.index c.args.count c.args.from.now
@@ -55,24 +52,22 @@ overflow_add-held c = omega (arith, room c, c.requires.room)
 pub loop-thread-preserved : goal.loop-thread-preserved
 loop-thread-preserved c =
     let l = c.loop-thread in
-    ⊎_elim
-    (λ w.
-    let k : is_needed (heard_in c.args.rows.now) c.args.own c.args.index l.thread ≡ true = sym c.needed.ensures ∙ w.if-needed.true in
-    let m : l.held < c.args.count + 7 = added_room _ _ _ _ _ _ _ _ _ _ l.invariant.3 k c.requires.own_in (omega arith) in
-    let f = c.requires.room.from_room in
-    let g = c.requires.room.to_room in (
-      omega (arith, c.loop-thread-test.true),
-      ap length w.from-is ∙ length-set l.from l.held _ ∙ l.invariant.1,
-      ap length w.to-is ∙ length-set l.to l.held _ ∙ l.invariant.2,
-      rw (w.from-is, w.to-is, w.held-is) (added_needed _ _ _ _ _ _ _ _ _ _ l.invariant.3 k (omega (arith, m, f, l.invariant.1)) (omega (arith, m, g, l.invariant.2))),
-    ))
-    (λ w. (
-      omega (arith, c.loop-thread-test.true),
-      ap length w.from-is ∙ l.invariant.1,
-      ap length w.to-is ∙ l.invariant.2,
-      rw (w.from-is, w.to-is, w.held-is) (added_skipped _ _ _ _ _ _ _ _ _ _ l.invariant.3 (sym c.needed.ensures ∙ w.if-needed.false)),
-    ))
-    c.if-needed.branch-raw
+    elim c.if-needed.branch [
+      | then-needed w ↦
+          let k : is_needed (heard_in c.args.rows.now) c.args.own c.args.index l.thread ≡ true = sym c.needed.ensures ∙ w.if-needed.true in
+          let m : l.held < c.args.count + 7 = added_room _ _ _ _ _ _ _ _ _ _ l.invariant.2 k c.requires.own_in (omega arith) in
+          let f = c.requires.room.from_room in
+          let g = c.requires.room.to_room in (
+            ap length w.from-is ∙ length-set l.from l.held _ ∙ l.invariant.0,
+            ap length w.to-is ∙ length-set l.to l.held _ ∙ l.invariant.1,
+            rw (w.from-is, w.to-is, w.held-is) (added_needed _ _ _ _ _ _ _ _ _ _ l.invariant.2 k (omega (arith, m, f, l.invariant.0)) (omega (arith, m, g, l.invariant.1))),
+          )
+      | else-needed w ↦ (
+        ap length w.from-is ∙ l.invariant.0,
+        ap length w.to-is ∙ l.invariant.1,
+        rw (w.from-is, w.to-is, w.held-is) (added_skipped _ _ _ _ _ _ _ _ _ _ l.invariant.2 (sym c.needed.ensures ∙ w.if-needed.false)),
+      )
+    ]
 
 pub returns : goal.returns
-returns c = added_eight _ _ _ _ _ _ _ _ _ _ (omega arith) c.loop-thread.invariant.3
+returns c = added_eight _ _ _ _ _ _ _ _ _ _ (omega arith) c.loop-thread.invariant.2

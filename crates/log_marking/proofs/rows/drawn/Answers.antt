@@ -1,8 +1,5 @@
 -- `rows::drawn` meets its contract: its choices are the definition's. Assumes nothing.
 use Rattle.log_marking.specs.Inner.Rows.{drawn_row}
-use borrow.Author.Rules.{rules}
-use Rattle.log_marking.proofs.rows.drawn.Reads as reads
-use Rattle.log_marking.proofs.rows.choose.Reads as choose-reads
 use Rattle.log_marking.proofs.rows.drawn.Goals as goal
 
 -- src/rows.rt:18:1

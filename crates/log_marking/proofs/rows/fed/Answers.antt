@@ -1,8 +1,5 @@
 -- `rows::fed` meets its contract: its choices are the definition's. Assumes nothing.
 use Rattle.log_marking.specs.Inner.Rows.{fed_row}
-use borrow.Author.Rules.{rules}
-use Rattle.log_marking.proofs.rows.fed.Reads as reads
-use Rattle.log_marking.proofs.rows.choose.Reads as choose-reads
 use Rattle.log_marking.proofs.rows.fed.Goals as goal
 
 -- src/rows.rt:32:1

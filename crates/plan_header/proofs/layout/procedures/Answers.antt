@@ -1,6 +1,5 @@
 -- `procedures`: bits 4 to 9 of the header.
 use Rattle.plan_packed.specs.Format.{procedures}
-use borrow.Author.Rules.{rules}
 use Rattle.plan_header.proofs.layout.procedures.Goals as goal
 
 pub returns : goal.returns

@@ -1,6 +1,5 @@
 -- `spare`: bits 22 to 31 of the header.
 use Rattle.plan_packed.specs.Format.{header_spare}
-use borrow.Author.Rules.{rules}
 use Rattle.plan_header.proofs.layout.spare.Goals as goal
 
 pub returns : goal.returns

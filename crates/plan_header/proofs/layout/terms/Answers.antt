@@ -1,6 +1,5 @@
 -- `terms`: bits 10 to 21 of the header.
 use Rattle.plan_packed.specs.Format.{terms}
-use borrow.Author.Rules.{rules}
 use Rattle.plan_header.proofs.layout.terms.Goals as goal
 
 pub returns : goal.returns

@@ -1,6 +1,5 @@
 -- `volatiles`: the 32 bits after the header.
 use Rattle.plan_packed.specs.Format.{volatiles}
-use borrow.Author.Rules.{rules}
 use Rattle.plan_header.proofs.layout.volatiles.Goals as goal
 
 pub returns : goal.returns

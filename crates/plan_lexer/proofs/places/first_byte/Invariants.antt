@@ -1,17 +1,10 @@
 -- `first_byte` meets its contract. The invariant: the token is the one that so many are before, from the next byte on. Assumes nothing.
-use Prim.Native.Nat.{ℕ, ◌-◌, ◌≤◌}
-use native.Mathlib.Omega.{arith}
-use mathlib.Core.Path.{◌≡◌, refl, sym, ap, ◌∙◌}
-use mathlib.Core.List.{List, [], ◌∷◌}
+use Prim.Native.Nat.{◌-◌, ◌≤◌}
+use mathlib.Core.Path.{◌≡◌}
 use lib.ListN.{length}
-use borrow.Author.Rules.{rules}
-use Rattle.plan_notation.specs.Tokens.{text_end}
-use Rattle.plan_notation.specs.Lexing.{Token, token, nothing, tokens_of, ended_at_end}
-use Rattle.plan_scanner.specs.Inner.Classes.{Scanned}
+use Rattle.plan_notation.specs.Lexing.{nothing, tokens_of}
 use Rattle.plan_scanner.specs.Inner.Extents.{onward}
-use Rattle.plan_scanner.proofs.ScanLaws.{no_byte, blank, hash}
 use Rattle.plan_lexer.specs.Place.{place_in}
-use Rattle.plan_lexer.proofs.PlaceLaws.{first_place, later_place, at_end}
 use Rattle.plan_lexer.proofs.places.first_byte.Given as goal
 
 abbrev pub invariant-loop-index : goal.invariant-loop-index

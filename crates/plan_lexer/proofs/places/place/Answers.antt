@@ -4,7 +4,6 @@ use native.Mathlib.Omega.{arith}
 use mathlib.Core.Path.{sym, ap, ◌∙◌}
 use lib.Seq.{take_all, length-take-le}
 use lib.ListN.{take}
-use borrow.Author.Rules.{rules}
 use Rattle.plan_notation.specs.Lexing.{Place, place_after}
 use Rattle.plan_lexer.specs.Place.{place_of}
 use Rattle.plan_lexer.proofs.places.place.Goals as goal

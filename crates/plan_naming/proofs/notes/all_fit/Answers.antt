@@ -1,14 +1,14 @@
 use mathlib.Core.Path.{◌≡◌, sym, ap, subst, ◌∙◌}
 use mathlib.Core.Bool.{false, false≢true}
 use mathlib.Core.Logic.{⊎_elim}
-use Prim.Native.Nat.{ℕ, ◌-◌, ◌≤◌, ◌<◌}
+use Prim.Native.Nat.{ℕ, ◌<◌}
 use native.Mathlib.Omega.{arith}
 use borrow.Author.Rules.{rules}
 use borrow.Author.Count.{below_more}
 use lib.ListN.{get_or}
 use Rattle.plan_packed.specs.Format.{tag_at, tag_count}
 use Rattle.plan_packed.specs.Refusals.{wrong_call}
-use Rattle.plan_packed.specs.Inner.Steps.{tag_in, tag_sort, Fitting}
+use Rattle.plan_packed.specs.Inner.Steps.{tag_in, tag_sort}
 use Rattle.plan_packed.proofs.SortLaws.{tags_are, no_call}
 use Rattle.plan_packed.proofs.NoteLaws.{note_fits}
 use Rattle.plan_packed.proofs.RowLaws.{tagged, sort_is}
@@ -16,7 +16,7 @@ use Rattle.plan_naming.proofs.notes.all_fit.Goals as goal
 use Rattle.plan_naming.proofs.notes.all_fit.Goals.{After-tag-tag, Else-notes-term, Joined-else-tag-eq-CALL}
 
 pub loop-term-init : goal.loop-term-init
-loop-term-init c = (search rules, λ t h. absurd (omega arith))
+loop-term-init c = λ t h. absurd (omega arith)
 
 pub offset_bounds-words-term : goal.offset_bounds-words-term
 offset_bounds-words-term c = let f = c.requires.right.headed.few in omega arith
@@ -95,12 +95,10 @@ loop-term-preserved c =
     let a = c.args in
     let r = c.requires.right in
     let f = r.headed.few in
-    let h = c.loop-term-test.true in (
-      search rules,
-      below_more _ _ l.invariant.1
-          (note_fits a.plan.now a.count l.term a.notes.now r.headed.sized.terms_are (omega arith) c.requires.terms_noted (own-sort (goal.at.loop-term-preserved c).Else-notes-term)
-          (right_call c)),
-    )
+    below_more _ _ l.invariant
+    (note_fits a.plan.now a.count l.term a.notes.now r.headed.sized.terms_are (omega arith) c.requires.terms_noted
+    (own-sort (goal.at.loop-term-preserved c).Else-notes-term)
+    (right_call c))
 
 pub returns : goal.returns
-returns c = λ e t h. c.loop-term.invariant.1 t (omega arith)
+returns c = λ e t h. c.loop-term.invariant t (omega arith)

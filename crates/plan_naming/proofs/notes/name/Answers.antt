@@ -1,5 +1,4 @@
 -- `name`: the list of one name.
-use borrow.Author.Rules.{rules}
 use Rattle.plan_packed.specs.Inner.Steps.{note_all}
 use Rattle.plan_naming.proofs.notes.name.Goals as goal
 

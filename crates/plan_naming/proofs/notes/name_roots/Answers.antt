@@ -1,16 +1,14 @@
 use mathlib.Core.Path.{◌≡◌}
-use borrow.Author.Rules.{rules}
 use native.Mathlib.Omega.{arith}
-use Prim.Native.Nat.{◌-◌, ◌≤◌}
 use native.Mathlib.Numerals.{add-one}
-use Rattle.plan_packed.specs.Inner.Steps.{RootsNoted, note_all}
+use Rattle.plan_packed.specs.Inner.Steps.{note_all}
 use Rattle.plan_packed.proofs.Reading.{procedures_lt}
 use Rattle.plan_packed.proofs.Shown.{root_below}
 use Rattle.plan_packed.proofs.NoteLaws.{no_notes, root_noted}
 use Rattle.plan_naming.proofs.notes.name_roots.Goals as goal
 
 pub loop-procedure-init : goal.loop-procedure-init
-loop-procedure-init c = (search rules, rw c.requires.notes_value (no_notes c.args.plan.now))
+loop-procedure-init c = rw c.requires.notes_value (no_notes c.args.plan.now)
 
 pub root-root-requires : goal.root-root-requires
 root-root-requires c =
@@ -35,16 +33,12 @@ loop-procedure-preserved c =
     let b = a.plan.now in
     let f = c.requires.headed.few in
     let l = c.loop-procedure in
-    let h = root_below b a.procedures a.count l.procedure c.requires.headed c.loop-procedure-test.true in (
-      search rules,
-      rw add-one
-          (root_noted b l.procedure c.root-root.result l.notes _ c.root-root.ensures (omega (arith, h)) c.name.ensures
-          l.invariant.1),
-    )
+    let h = root_below b a.procedures a.count l.procedure c.requires.headed c.loop-procedure-test.true in
+    rw add-one (root_noted b l.procedure c.root-root.result l.notes _ c.root-root.ensures (omega (arith, h)) c.name.ensures l.invariant)
 
 pub returns : goal.returns
 returns c =
     let a = c.args in
     let l = c.loop-procedure in
     let e : l.procedure ≡ a.procedures = omega arith in
-    rw e at l.invariant.1
+    rw e at l.invariant

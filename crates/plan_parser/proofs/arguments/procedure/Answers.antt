@@ -2,8 +2,7 @@
 use Rattle.plan_parser_goals.proofs.MoveLaws.{procedure_high, procedure_none, procedure_alone_lem, procedure_arguments}
 use Rattle.plan_parser_goals.proofs.Numbers.{procedure_goal}
 use mathlib.Core.Path.{◌≡◌, refl, sym, ◌∙◌}
-use Prim.Native.Nat.{suc, ◌+◌, ◌-◌, ◌<◌, ◌≤◌}
-use lib.ListN.{get_or, length}
+use Prim.Native.Nat.{suc, ◌+◌, ◌-◌}
 use native.Mathlib.Omega.{arith}
 use Rattle.plan_parser.proofs.DirectLaws.{called_on, called_stop}
 use borrow.Author.Rules.{rules}

@@ -2,7 +2,6 @@
 use Rattle.plan_parser_goals.proofs.MoveLaws.{more_stops}
 use Rattle.plan_parser_goals.proofs.Numbers.{more_goal}
 use mathlib.Core.Path.{sym, ◌∙◌}
-use native.Mathlib.Omega.{arith}
 use Rattle.plan_parser.proofs.DirectLaws.{turns_stop}
 use borrow.Author.Rules.{rules}
 use Rattle.plan_parser.proofs.followers.more.Goals as goal

@@ -1,7 +1,6 @@
 -- `begin` meets its contract. Assumes nothing.
 use Rattle.plan_parser.proofs.StackLaws.{stacks_twice, stacks_as, main_goals, heading_goals}
 use native.Mathlib.Omega.{arith}
-use borrow.Author.Rules.{rules}
 use Rattle.plan_parser.proofs.stacks.begin.Goals as goal
 
 pub returns-then-number-eq0 : goal.returns-then-number-eq0

@@ -1,6 +1,5 @@
 -- `last` meets its contract. Assumes nothing.
 use Rattle.plan_parser.proofs.StackLaws.{last_none, last_some}
-use borrow.Author.Rules.{rules}
 use Rattle.plan_parser.proofs.stacks.last.Goals as goal
 
 pub returns-then-top-eq0 : goal.returns-then-top-eq0

@@ -1,6 +1,5 @@
 -- `number` meets its contract. Assumes nothing.
 use borrow.Author.Tests.{lt-ltb, le-ltb}
-use borrow.Author.Rules.{rules}
 use Rattle.plan_parser.proofs.stacks.number.Goals as goal
 
 pub returns-then-value-lt1024 : goal.returns-then-value-lt1024

@@ -1,6 +1,5 @@
 -- `operand` meets its contract. Assumes nothing.
 use Rattle.plan_parser.proofs.StackLaws.{operand_none, operand_term, operand_number}
-use borrow.Author.Rules.{rules}
 use Rattle.plan_parser.proofs.stacks.operand.Goals as goal
 
 pub returns-then-back-eq0 : goal.returns-then-back-eq0

@@ -1,6 +1,5 @@
 -- `stack_all` meets its contract. Assumes nothing.
 use Rattle.plan_parser.proofs.StackLaws.{stacks_twice}
-use native.Mathlib.Omega.{arith}
 use borrow.Author.Rules.{rules}
 use Rattle.plan_parser.proofs.stacks.stack_all.Goals as goal
 

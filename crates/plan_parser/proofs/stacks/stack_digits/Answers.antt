@@ -2,7 +2,6 @@
 use native.Mathlib.Omega.{arith}
 use Rattle.plan_parser_goals.specs.Inner.Encoded.{unpacked}
 use Rattle.plan_parser.proofs.StackLaws.{stacks_twice, six_few}
-use borrow.Author.Rules.{rules}
 use Rattle.plan_parser.proofs.stacks.stack_digits.Goals as goal
 
 pub returns : goal.returns

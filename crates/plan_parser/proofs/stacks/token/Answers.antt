@@ -3,7 +3,6 @@ use lib.ListN.{get_or-eq_default}
 use native.Mathlib.Omega.{arith}
 use mathlib.Core.Path.{sym, ◌∙◌}
 use Rattle.plan_parser.proofs.StackLaws.{any_default}
-use borrow.Author.Rules.{rules}
 use Rattle.plan_parser.proofs.stacks.token.Goals as goal
 
 pub returns-then-tokens-at : goal.returns-then-tokens-at

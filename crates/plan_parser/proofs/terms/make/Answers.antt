@@ -1,7 +1,6 @@
 -- `make` meets its contract. Assumes nothing.
 use Rattle.plan_parser.proofs.MakeLaws.{word_fits, makes, count_known}
 use native.Mathlib.Omega.{arith}
-use borrow.Author.Rules.{rules}
 use Rattle.plan_parser.proofs.terms.make.Goals as goal
 
 pub operand-first-requires : goal.operand-first-requires

@@ -1,6 +1,5 @@
 -- `rest` meets its contract. Assumes nothing.
 use native.Mathlib.Omega.{arith}
-use borrow.Author.Rules.{rules}
 use Rattle.plan_parser.proofs.turns.rest.Goals as goal
 
 pub returns-then-code-eq192 : goal.returns-then-code-eq192

@@ -1,9 +1,7 @@
-use Prim.Native.Nat.{◌-◌, ◌≤◌}
 use native.Mathlib.Omega.{arith}
-use mathlib.Core.Path.{◌≡◌, refl, ◌∙◌}
+use mathlib.Core.Path.{◌≡◌, refl, ap, ◌∙◌}
 use lib.ListN.{length}
-use borrow.Author.Rules.{rules}
-use Rattle.plan_notation.specs.Lexing.{comment}
+use Rattle.plan_notation.specs.Lexing.{nothing}
 use Rattle.plan_scanner.specs.Inner.Extents.{onward}
 use Rattle.plan_scanner.proofs.ScanLaws.{comment_on, comment_over, comment_last}
 use Rattle.plan_scanner.proofs.extents.comment_end.Goals as goal
@@ -21,4 +19,9 @@ loop-end-preserved c = let l = c.loop-end in
 
 pub returns : goal.returns
 returns c = let l = c.loop-end in
-    record { behind = l.invariant.0; inside = l.invariant.1; same = l.invariant.2 ∙ comment_last _ l.end c.loop-end-test.false }
+    let e : l.end ≡ length c.args.text.now = omega (arith, l.invariant.1, c.loop-end-test.false) in
+    record {
+      behind = c.requires;
+      inside = omega arith;
+      same = l.invariant.2 ∙ comment_last _ l.end c.loop-end-test.false ∙ ap (onward nothing c.args.text.now) e;
+    }

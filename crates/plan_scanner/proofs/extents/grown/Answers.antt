@@ -1,6 +1,5 @@
 -- `grown` meets its contract. Assumes nothing.
 use borrow.Author.Tests.{lt-ltb, le-ltb}
-use borrow.Author.Rules.{rules}
 use Rattle.plan_notation.specs.Lexing.{grown}
 use Rattle.plan_scanner.proofs.extents.grown.Goals as goal
 

@@ -1,9 +1,9 @@
-use Prim.Native.Nat.{ℕ, ◌+◌, ◌-◌, ◌≤◌}
+use Prim.Native.Nat.{ℕ, ◌+◌}
 use native.Mathlib.Omega.{arith}
 use mathlib.Core.Path.{◌≡◌, ap, sym, ◌∙◌}
 use lib.ListN.{length}
-use borrow.Author.Rules.{rules}
-use Rattle.plan_notation.specs.Lexing.{name}
+use mathlib.Core.List.{◌∷◌}
+use Rattle.plan_notation.specs.Lexing.{name, token, name_of, nothing}
 use Rattle.plan_scanner.specs.Inner.Classes.{Scanned}
 use Rattle.plan_scanner.specs.Inner.Extents.{onward}
 use Rattle.plan_scanner.proofs.ScanLaws.{longer, name_over, name_last}
@@ -47,4 +47,10 @@ loop-end-preserved c =
 pub returns : goal.returns
 returns c =
     let l = c.loop-end in
-    record { behind = l.invariant.0; inside = l.invariant.1; same = λ s. l.invariant.2 s ∙ name_last _ l.end c.loop-end-test.false s l.value }
+    let text = c.args.text.now in
+    let e : l.end ≡ length text = omega (arith, l.invariant.1, c.loop-end-test.false) in
+    record {
+      behind = c.requires.from_in_bounds;
+      inside = omega arith;
+      same = λ s. l.invariant.2 s ∙ name_last _ l.end c.loop-end-test.false s l.value ∙ ap (λ (i : ℕ). token (name_of l.value) s ∷ onward nothing text i) e;
+    }

@@ -1,6 +1,5 @@
 -- `place_of` meets its contract. Assumes nothing.
 use mathlib.Core.Path.{refl}
-use borrow.Author.Rules.{rules}
 use Rattle.plan_scanner.specs.Inner.Names.{place_of}
 use Rattle.plan_scanner.proofs.names.place_of.Goals as goal
 

@@ -1,6 +1,5 @@
 -- `token_of` meets its contract: a name is at its place or is no token's. Assumes nothing.
 use mathlib.Core.Path.{sym}
-use borrow.Author.Rules.{rules}
 use Rattle.plan_scanner.proofs.NameLaws.{there, nowhere}
 use Rattle.plan_scanner.proofs.names.token_of.Goals as goal
 

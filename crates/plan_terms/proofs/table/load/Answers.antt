@@ -1,18 +1,15 @@
 use mathlib.Core.Path.{◌≡◌}
 use borrow.Author.Rules.{rules}
 use native.Mathlib.Omega.{arith}
-use Prim.Native.Nat.{ℕ, ◌-◌, ◌≤◌, ◌<◌}
 use mathlib.Core.Bool.{Bool, true, false}
 use native.Mathlib.Numerals.{add-one}
 use borrow.Author.Count.{below_more}
 use Rattle.format.proofs.LowestLaws.{found, found_none}
 use Rattle.plan_packed.specs.Refusals.{wrong_term}
-use Rattle.plan_packed.specs.Inner.Steps.{Loaded, TermsNoted}
 use Rattle.plan_packed.specs.Trees.{node_at}
 use Rattle.plan_packed.proofs.Reading.{term_is}
 use Rattle.plan_packed.proofs.SingleTerm.{judged, unloaded, loaded_more}
 use Rattle.plan_packed.proofs.NoteLaws.{no_terms_noted, term_noted}
-use Rattle.plan_scopes.specs.Inner.Scopes.{TermsScoped}
 use Rattle.plan_scopes.proofs.Roots.{no_terms_scoped}
 use Rattle.plan_scopes.proofs.Terms.{term_scoped}
 use Rattle.plan_terms.proofs.table.load.Goals as goal
@@ -20,13 +17,13 @@ use Rattle.plan_terms.proofs.table.load.Goals.{After-wrong_term}
 
 pub loop-term-init : goal.loop-term-init
 loop-term-init c =
-    let b = c.args.plan.now in (
-      search rules,
-      (λ k h. absurd (omega arith)),
-      unloaded b _ c.requires.words_value,
-      no_terms_noted b c.args.procedures _ c.requires.headed.sized.procedures_are c.requires.roots_noted,
-      no_terms_scoped b c.args.procedures _ c.requires.headed.sized.procedures_are c.requires.roots_scoped,
-    )
+    let b = c.args.plan.now in
+    let p = c.requires.headed.sized.procedures_are in record {
+      right = λ k h. absurd (omega arith);
+      loaded = unloaded b _ c.requires.words_value;
+      noted = no_terms_noted b c.args.procedures _ p c.requires.roots_noted;
+      scoped = no_terms_scoped b c.args.procedures _ p c.requires.roots_scoped;
+    }
 
 pub word_at-word-requires : goal.word_at-word-requires
 word_at-word-requires c =
@@ -52,7 +49,7 @@ verdict c x h =
 pub returns-then-wrong_term : goal.returns-then-wrong_term
 returns-then-wrong_term c = record {
   lowest = found (wrong_term c.args.plan.now) _ _ c.loop-term-test.true (verdict (goal.at.returns-then-wrong_term c).After-wrong_term true c.if-wrong_term.true)
-      c.loop-term.invariant.1;
+      c.loop-term.invariant.right;
   loaded = (λ q. absurd (omega arith));
   terms_noted = (λ q. absurd (omega arith));
   terms_scoped = λ q. absurd (omega arith);
@@ -70,19 +67,23 @@ loop-term-preserved c =
     let l = c.loop-term in
     let b = c.args.plan.now in
     let f = c.requires.headed.few in
-    let right = verdict (goal.at.loop-term-preserved c).After-wrong_term false c.if-wrong_term.false in (
-      search rules,
-      below_more _ _ l.invariant.1 right,
-      rw add-one (loaded_more b l.term l.words c.word_at-word.result (omega arith) c.word_at-word.ensures l.invariant.2),
-      rw add-one (term_noted b c.args.procedures c.args.count l.term l.notes _ c.requires.headed right
-          (rw (c.word_at-word.ensures, ← term_is b l.term) at (c.wrong_term.ensures.notes_after c.if-wrong_term.false)) l.invariant.3),
-      rw add-one (term_scoped b c.args.procedures c.args.count l.term c.requires.headed c.loop-term-test.true
-          (λ t q. below_more _ _ l.invariant.1 right t (omega arith)) l.scopes _
-          (rw c.word_at-word.ensures at (c.wrong_term.ensures.scopes_after c.if-wrong_term.false)) l.invariant.4),
-    )
+    let right = verdict (goal.at.loop-term-preserved c).After-wrong_term false c.if-wrong_term.false in record {
+      right = below_more _ _ l.invariant.right right;
+      loaded = rw add-one (loaded_more b l.term l.words c.word_at-word.result (omega arith) c.word_at-word.ensures l.invariant.loaded);
+      noted = rw add-one (term_noted b c.args.procedures c.args.count l.term l.notes _ c.requires.headed right
+          (rw (c.word_at-word.ensures, ← term_is b l.term) at (c.wrong_term.ensures.notes_after c.if-wrong_term.false)) l.invariant.noted);
+      scoped = rw add-one (term_scoped b c.args.procedures c.args.count l.term c.requires.headed c.loop-term-test.true
+          (λ t q. below_more _ _ l.invariant.right right t (omega arith)) l.scopes _
+          (rw c.word_at-word.ensures at (c.wrong_term.ensures.scopes_after c.if-wrong_term.false)) l.invariant.scoped);
+    }
 
 pub returns : goal.returns
 returns c =
     let a = c.args in
     let l = c.loop-term in
-    let e : l.term ≡ a.count = omega arith in record { lowest = found_none (wrong_term a.plan.now) _ _ (search rules) (search rules) l.invariant.1; loaded = (λ q. rw e at l.invariant.2); terms_noted = (λ q. rw e at l.invariant.3); terms_scoped = λ q. rw e at l.invariant.4 }
+    let e : l.term ≡ a.count = omega arith in record {
+      lowest = found_none (wrong_term a.plan.now) _ _ (search rules) (search rules) (rw e at l.invariant.right);
+      loaded = (λ q. rw e at l.invariant.loaded);
+      terms_noted = (λ q. rw e at l.invariant.noted);
+      terms_scoped = λ q. rw e at l.invariant.scoped;
+    }

@@ -2,7 +2,6 @@
 use mathlib.Core.Path.{◌≡◌, sym, subst, ap, ◌∙◌}
 use mathlib.Core.Bool.{Bool, true, false, not, true≢false}
 use Prim.Native.Nat.{ℕ, ◌≤◌, ◌<◌}
-use borrow.Author.Rules.{rules}
 use lib.Dec.{eqb}
 use Rattle.plan_packed.specs.Inner.Operands.{tag_of}
 use Rattle.plan_packed.specs.Refusals.{breaks_table}
@@ -13,7 +12,7 @@ use Rattle.plan_packed.specs.Trees.{node_of}
 use Rattle.plan_packed.proofs.RowLaws.{by_row, kind_small, children_are}
 use Rattle.plan_packed.proofs.SingleTerm.{past_table, row_is}
 use Rattle.plan_terms.proofs.table.wrong_term.Goals as goal
-use Rattle.plan_terms.proofs.table.wrong_term.Goals.{After-wrong_other}
+use Rattle.plan_terms.proofs.table.wrong_term.Goals.{After-wrong_other, then-wrong_other, else-wrong_other}
 
 module _ (procedures n t w k : ℕ) (e : k ≡ tag_of w) (h : k < tag_count) where
   of_row : (r : Bool) → r ≡ wrong_by_row procedures n t w k → r ≡ breaks_table procedures n t (term_in w)
@@ -56,32 +55,33 @@ other_is :
     (bits_to (number_at c.tag-tag.result 3) c.args.word)
 other_is c = rw (c.number-place.ensures, c.number-kind.ensures) at c.wrong_other.ensures
 
-pub returns-then-wrong_other : goal.returns-then-wrong_other
-returns-then-wrong_other c =
-    let a = c.args in record {
-      value = other_wrong a.procedures a.count a.term a.word c.tag-tag.result c.tag-tag.ensures c.if-tag-ge-TAGS.false _
-          (other_is (goal.at.returns-then-wrong_other c).After-wrong_other) c.if-wrong_other.true;
-      notes_after = (λ q. absurd (true≢false q));
-      scopes_after = λ q. absurd (true≢false q);
-    }
-
-pub returns-then-wrong_children : goal.returns-then-wrong_children
-returns-then-wrong_children c =
-    let a = c.args in record {
-      value = child_wrong a.procedures a.count a.term a.word c.tag-tag.result c.tag-tag.ensures c.if-tag-ge-TAGS.false _ (other_is (goal.at.returns-then-wrong_children c).After-wrong_other) _
-          c.wrong_children.ensures.value c.if-wrong_other.false c.if-wrong_children.true;
-      notes_after = (λ q. absurd (true≢false q));
-      scopes_after = λ q. absurd (true≢false q);
-    }
-
-pub returns : goal.returns
-returns c =
+pub returns-then-wrong_children-clause-value : goal.returns-then-wrong_children-clause-value
+returns-then-wrong_children-clause-value c =
     let a = c.args in
-    let l = c.if-wrong_children.false in record {
-      value = by_spare a.procedures a.count a.term a.word c.tag-tag.result c.tag-tag.ensures c.if-tag-ge-TAGS.false _ (other_is (goal.at.returns c).After-wrong_other) _
-          c.wrong_children.ensures.value c.if-wrong_other.false l _
-          (rw c.number.ensures at c.bits_after.ensures);
-      notes_after = (λ q. rw (by_tag a.procedures a.count a.term a.word c.tag-tag.result c.tag-tag.ensures c.if-tag-ge-TAGS.false) at
-          (c.wrong_children.ensures.notes_after l));
-      scopes_after = λ q. rw c.tag-tag.ensures at (c.wrong_children.ensures.scopes_after l);
-    }
+    let k = c.tag-tag.result in
+    let other = other_is (goal.at.returns-then-wrong_children-clause-value c).After-wrong_other in
+    c.if-wrong_children.true ∙ elim c.if-wrong_other.branch [
+      | then-wrong_other w ↦ other_wrong a.procedures a.count a.term a.word k c.tag-tag.ensures c.if-tag-ge-TAGS.false _ other w.if-wrong_other.true
+      | else-wrong_other w ↦ child_wrong a.procedures a.count a.term a.word k c.tag-tag.ensures c.if-tag-ge-TAGS.false _ other _
+          w.wrong_children.ensures.value w.if-wrong_other.false (sym w.value-is ∙ c.if-wrong_children.true)
+    ]
+
+pub returns-else-wrong_children-clause-value : goal.returns-else-wrong_children-clause-value
+returns-else-wrong_children-clause-value c =
+    let a = c.args in
+    let k = c.tag-tag.result in
+    let other = other_is (goal.at.returns-else-wrong_children-clause-value c).After-wrong_other in
+    elim c.if-wrong_other.branch [
+      | then-wrong_other w ↦ absurd (true≢false (sym w.if-wrong_other.true ∙ sym w.value-is ∙ c.if-wrong_children.false))
+      | else-wrong_other w ↦ by_spare a.procedures a.count a.term a.word k c.tag-tag.ensures c.if-tag-ge-TAGS.false _ other _
+          w.wrong_children.ensures.value w.if-wrong_other.false (sym w.value-is ∙ c.if-wrong_children.false) _ (rw c.number.ensures at c.bits_after.ensures)
+    ]
+
+pub returns-else-wrong_children-clause-notes_after : goal.returns-else-wrong_children-clause-notes_after
+returns-else-wrong_children-clause-notes_after c =
+    let a = c.args in
+    λ q. elim c.if-wrong_other.branch [
+      | then-wrong_other w ↦ absurd (true≢false (sym w.if-wrong_other.true ∙ sym w.value-is ∙ c.if-wrong_children.false))
+      | else-wrong_other w ↦ w.notes-is ∙ (rw (by_tag a.procedures a.count a.term a.word c.tag-tag.result c.tag-tag.ensures c.if-tag-ge-TAGS.false) at
+          (w.wrong_children.ensures.notes_after (sym w.value-is ∙ c.if-wrong_children.false)))
+    ]

@@ -2,7 +2,6 @@
 use native.Mathlib.Omega.{arith}
 use Rattle.text.proofs.Added.{added_more}
 use Rattle.text_diagram_elements.specs.Diagram.{head_text}
-use borrow.Author.Rules.{rules}
 use Rattle.text_diagram.proofs.head.put_head.Goals as goal
 
 pub returns : goal.returns

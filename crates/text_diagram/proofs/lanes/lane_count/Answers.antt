@@ -1,13 +1,9 @@
-use Prim.Native.Nat.{◌-◌, ◌/◌, ◌≤◌}
 use native.Mathlib.Numerals.{add-one}
 use native.Mathlib.Omega.{arith}
-use mathlib.Core.Path.{◌≡◌, refl, ap, ◌∙◌}
+use mathlib.Core.Path.{refl, ap, ◌∙◌}
 use mathlib.Core.Logic.{⊎_elim}
-use lib.ListN.{length, take}
-use Rattle.log_records.specs.Packed.{log_of}
 use Rattle.text_diagram_elements.specs.Diagram.{lane_count}
 use Rattle.text_diagram_elements.proofs.NextRecord.{all_taken, lanes_next}
-use borrow.Author.Rules.{rules}
 use Rattle.text_diagram.proofs.lanes.lane_count.Goals as goal
 
 pub loop-index-init : goal.loop-index-init

@@ -4,7 +4,6 @@ use Rattle.text.specs.Text.{ascii}
 use Rattle.text.proofs.Decimals.{few_digits}
 use Rattle.text.proofs.Added.{added_more}
 use Rattle.text_diagram_elements.specs.Diagram.{lane_text}
-use borrow.Author.Rules.{rules}
 use Rattle.text_diagram.proofs.lanes.put_lane.Goals as goal
 
 pub put_number-at-requires : goal.put_number-at-requires

@@ -1,12 +1,9 @@
-use Prim.Native.Nat.{◌-◌, ◌*◌, ◌≤◌}
 use native.Mathlib.Numerals.{add-one}
 use native.Mathlib.Omega.{arith}
 use mathlib.Core.Path.{◌≡◌, ap}
 use Rattle.text.proofs.Added.{added_as}
 use Rattle.text_diagram_elements.specs.Diagram.{lane_texts}
-use Rattle.text_diagram_elements.specs.Inner.Drawn.{Drawn}
 use Rattle.text_diagram_elements.proofs.Together.{drawn_none, drawn_more}
-use borrow.Author.Rules.{rules}
 use Rattle.text_diagram.proofs.lanes.put_lanes.Goals as goal
 
 pub loop-thread-init : goal.loop-thread-init

@@ -1,7 +1,6 @@
 -- `digit_of`: the code is its definition. Assumes nothing.
 use borrow.Author.Tests.{lt-ltb, le-ltb}
 use Rattle.text_inputs.specs.Schedules.{digit_of}
-use borrow.Author.Rules.{rules}
 use Rattle.text_inputs.proofs.schedules.digit_of.Goals as goal
 
 pub returns-then-pick-lt10 : goal.returns-then-pick-lt10

@@ -1,6 +1,4 @@
 -- `is_digit_or_blank`: the code is its definition. Assumes nothing.
-use mathlib.Core.Path.{◌≡◌}
-use borrow.Author.Rules.{rules}
 use Rattle.text_inputs.proofs.schedules.is_digit_or_blank.Goals as goal
 
 pub returns : goal.returns

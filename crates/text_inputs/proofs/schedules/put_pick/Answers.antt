@@ -1,10 +1,8 @@
 -- `put_pick` meets its contract. Assumes nothing.
-use native.Mathlib.Omega.{arith}
-use mathlib.Core.Path.{◌≡◌, sym, ◌∙◌}
-use Rattle.text.proofs.Added.{added_none, added_as}
-use Rattle.text_inputs.specs.Schedules.{is_digit, pick_of}
+use mathlib.Core.Path.{sym, ◌∙◌}
+use Rattle.text.proofs.Added.{added_none}
+use Rattle.text_inputs.specs.Schedules.{pick_of}
 use Rattle.text_inputs.proofs.Bytes.{digit_least}
-use borrow.Author.Rules.{rules}
 use Rattle.text_inputs.proofs.schedules.put_pick.Goals as goal
 
 pub overflow_sub-byte : goal.overflow_sub-byte

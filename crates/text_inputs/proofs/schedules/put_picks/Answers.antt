@@ -1,8 +1,6 @@
 -- `put_picks` meets its contract. Assumes nothing.
-use mathlib.Core.Path.{◌≡◌, sym, ◌∙◌}
-use Rattle.text.proofs.Added.{added_as}
+use mathlib.Core.Path.{sym, ◌∙◌}
 use Rattle.text_inputs.specs.Schedules.{picks_of}
-use borrow.Author.Rules.{rules}
 use Rattle.text_inputs.proofs.schedules.put_picks.Goals as goal
 
 pub returns-then-is_digits : goal.returns-then-is_digits

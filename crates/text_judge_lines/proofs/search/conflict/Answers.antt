@@ -1,6 +1,5 @@
 -- `conflict` meets its contract. Assumes nothing.
 use Rattle.text_judge_lines.specs.Inner.Search.{conflict_test}
-use borrow.Author.Rules.{rules}
 use Rattle.text_judge_lines.proofs.search.conflict.Goals as goal
 
 pub returns : goal.returns

@@ -1,10 +1,9 @@
-use Prim.Native.Nat.{suc, ◌-◌, ◌≤◌, ◌<◌}
+use Prim.Native.Nat.{suc, ◌-◌, ◌<◌}
 use native.Mathlib.Omega.{arith}
 use mathlib.Core.Path.{◌≡◌, subst as along}
 use Rattle.format.specs.Version.{version_of}
 use Rattle.log_arrows.proofs.OfLog.{log_short}
-use Rattle.text_judge_lines.proofs.LastConflicts.{Earlier, HeardBy, heard_most, inside, passed, found, not_none}
-use borrow.Author.Rules.{rules}
+use Rattle.text_judge_lines.proofs.LastConflicts.{Earlier, heard_most, inside, passed, found, not_none}
 use Rattle.text_judge_lines.proofs.search.last_conflict.Goals as goal
 use Rattle.text_judge_lines.proofs.search.last_conflict.Goals.{After-conflict}
 

@@ -6,7 +6,6 @@ use Rattle.text.specs.Text.{ascii}
 use Rattle.text.proofs.Added.{added_as}
 use Rattle.text_preview_lines.specs.Lines.{room_words}
 use Rattle.text_preview_lines.proofs.StopWords.{room_is}
-use borrow.Author.Rules.{rules}
 use Rattle.text_preview_lines.proofs.stops.put_room.Goals as goal
 
 pub returns-in-Thread : goal.returns-in-Thread

@@ -6,7 +6,6 @@ use Rattle.text.specs.Text.{ascii}
 use Rattle.text.proofs.Added.{added_as}
 use Rattle.text_preview_lines.specs.Lines.{stop_words}
 use Rattle.text_preview_lines.proofs.StopWords.{stop_is}
-use borrow.Author.Rules.{rules}
 use Rattle.text_preview_lines.proofs.stops.put_stop.Goals as goal
 
 pub returns-in-End : goal.returns-in-End

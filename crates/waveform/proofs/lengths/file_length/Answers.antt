@@ -3,7 +3,6 @@ use native.Mathlib.Omega.{arith}
 use mathlib.Core.Path.{sym, ap}
 use Rattle.waveform.specs.Inner.Lengths.{length_for}
 use Rattle.waveform.proofs.FileLength.{length_some}
-use borrow.Author.Rules.{rules}
 use Rattle.waveform.proofs.lengths.file_length.Goals as goal
 
 pub returns-then-count-eq0 : goal.returns-then-count-eq0

@@ -1,9 +1,0 @@
--- `judge::pass::by_sixteen` meets its contract. Assumes nothing.
-use Rattle.judge.proofs.Going.{clear_rows}
-use mathlib.Core.Logic.{inl}
-use native.Mathlib.Omega.{arith}
-use borrow.Author.Rules.{rules}
-use Rattle.judge.proofs.pass.by_sixteen.Goals as goal
-
-pub pass-requires : goal.pass-requires
-pass-requires c = record { accepted = c.requires; clear = clear_rows 16 59 (inl (omega arith)) (omega arith) }
