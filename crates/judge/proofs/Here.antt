@@ -13,6 +13,7 @@ use lib.ListN.{length, get_or}
 use borrow.Author.Tests.{ltb-true, ltb-false}
 use Rattle.format.specs.Version.{Version}
 use Rattle.format.proofs.RefusalLaws.{neither}
+use Rattle.std.proofs.Common.{Ok, Err}
 use Rattle.log_records.specs.Record.{Kind, readv, writev, acquire, release, fork, join, Record, is_plain}
 use Rattle.log_records.specs.Packed.{kind_of, kind_at, record_at, record_count, log_of}
 use Rattle.log_records.specs.Refusals.{wrong_columns, log_refusal}
@@ -30,6 +31,7 @@ use Rattle.log_conflicts.proofs.FirstConflict.{conflicting↔, at_past}
 use Rattle.log_conflicts.proofs.RowClocks.{Kept, lower→clash, clash→lower}
 use Rattle.log_packing.proofs.Decoded.{kind_is_kind, thread_of_word, object_of_word, field_of_word}
 use Rattle.log_clocks.specs.Inner.Rows.{Row, clock_of, row_at, lower_of}
+use Rattle.log_places.specs.declared.places.NoneLeft.{NoneLeft}
 use Rattle.log_places.specs.Inner.Places.{place_at, numbers_of, Numbered, known, next, full}
 use Rattle.log_rows.specs.Inner.Rows.{place_row, is_access, held_row}
 use Rattle.log_row_stores.specs.Inner.Table.{clock_at}
@@ -183,37 +185,34 @@ module _ {v : Version} {b : List ℕ} {places i : ℕ} {N : List ℕ} {given : �
   -- ---- the number of the record's place
 
   -- all numbers are given, and there are more places
-  pub none_left : {N' : List ℕ} {given' n : ℕ} → Numbered N given (place_at b i) places N' given' n → n ≡ 0 → (places < record_count b) × (places < 1024)
-  none_left (known k) z = absurd (omega arith)
-  none_left (next k l) z = absurd (omega arith)
-  none_left (full k l) z = let h = given_below G.numbers (place_at b i) place_below k in let g = G.few h in (omega (arith, inside), omega arith)
+  pub none_left : {N' : List ℕ} {given' : ℕ} {e : NoneLeft} → Numbered N given (place_at b i) places N' given' (Err e)
+      → (places < record_count b) × (places < 1024)
+  none_left (full k l) = let h = given_below G.numbers (place_at b i) place_below k in let g = G.few h in (omega (arith, inside), omega arith)
 
   -- a record at no place
   pub unnumbered : Stands v b places i N given rows
   unnumbered = record { numbers = G.numbers; few = λ h. let g = G.few h in omega arith; within = G.within; blank = G.blank; shows = G.shows }
 
-  pub placed_here : {N' : List ℕ} {given' n : ℕ} → Numbered N given (place_at b i) places N' given' n → (n ≡ 0 → ⊥) → Placed N' given' (place_at b i) n
-  placed_here P Some-number = placed G.numbers place_below P Some-number
+  pub placed_here : {N' : List ℕ} {given' n : ℕ} → Numbered N given (place_at b i) places N' given' (Ok n) → Placed N' given' (place_at b i) n
+  placed_here P = placed G.numbers place_below P
 
-  pub numbered_here : {N' : List ℕ} {given' n : ℕ} → Numbered N given (place_at b i) places N' given' n → (n ≡ 0 → ⊥) → Stands v b places i N' given' rows
-  numbered_here {N'} {given'} P Some-number =
+  pub numbered_here : {N' : List ℕ} {given' n : ℕ} → Numbered N given (place_at b i) places N' given' (Ok n) → Stands v b places i N' given' rows
+  numbered_here {N'} {given'} P =
       record {
-        numbers = (placed_here P Some-number).places;
+        numbers = (placed_here P).places;
         few = (bounds P).0;
         within = (bounds P).1;
         blank = blank_more given given' rows (more P) G.blank;
         shows = shows_placed v (before b i) eight G.numbers place_below rows G.blank G.shows P;
       }
     where
-      bounds : {M : List ℕ} {more m : ℕ} → Numbered N given (place_at b i) places M more m → (more < 1024 → more ≤ i + 1) × (more ≤ places)
+      bounds : {M : List ℕ} {more m : ℕ} → Numbered N given (place_at b i) places M more (Ok m) → (more < 1024 → more ≤ i + 1) × (more ≤ places)
       bounds (known k) = (λ h. let g = G.few h in omega arith, G.within)
       bounds (next k l) = (λ h. let g = G.few (omega arith) in omega arith, omega arith)
-      bounds (full k l) = (λ h. let g = G.few h in omega arith, G.within)
 
-      more : {M : List ℕ} {later m : ℕ} → Numbered N given (place_at b i) places M later m → given ≤ later
+      more : {M : List ℕ} {later m : ℕ} → Numbered N given (place_at b i) places M later (Ok m) → given ≤ later
       more (known k) = omega arith
       more (next k l) = omega arith
-      more (full k l) = omega arith
 
   -- ---- whether it is an unordered access
 

@@ -24,7 +24,7 @@ use Rattle.log_rows.specs.Inner.Rows.{place_row, is_access, ordering_kind, passe
 use Rattle.log_row_stores.specs.Inner.Table.{Sound, Stored, Keeps, Hears, Told, late, kept}
 use Rattle.log_effects.specs.Inner.Step.{PlacedStep, accesses, hears, tells, OtherStep, forks, joins, rests, Stepped, placed, unplaced, none_left}
 use Rattle.std.proofs.Common.{Some, Result, Ok, Err, IsErr}
-use Rattle.log_effects.specs.declared.NoneLeft.{NoneLeft}
+use Rattle.log_places.specs.declared.places.NoneLeft.{NoneLeft}
 use Rattle.judge.specs.Inner.Found.{Found, Finds, finds_access, finds_full}
 use Rattle.judge.proofs.PlaceNumbers.{Placed}
 use Rattle.judge.proofs.PortRows.{row_of, Valid, HasRow}
@@ -222,22 +222,22 @@ module _ {v : Version} {b : List ℕ} {places i : ℕ} {N : List ℕ} {given : �
     -- it is no unordered access, it is one, or no number is left for its place
     pub next_by : {N' : List ℕ} {given' : ℕ} {after : List Row} {x : Result Bool NoneLeft} → Stepped b i read write places N given rows N' given' after x
         → x ≡ Ok false → Going v b places (i + 1) N' given' after
-    next_by (placed {d = true} P m X) e = cc
-    next_by (placed {d = false} P m X) e = placed_on (numbered_here W P m) (placed_here W P m) (ordered_step X) refl
+    next_by (placed {d = true} P X) e = cc
+    next_by (placed {d = false} P X) e = placed_on (numbered_here W P) (placed_here W P) (ordered_step X) refl
     next_by (unplaced a h g X) e =
         other_on (unnumbered W) a (subst (λ (x : ℕ). passes 6 x k ≡ false) read_is h) (subst (λ (x : ℕ). passes 7 x k ≡ false) write_is g) X
-    next_by (none_left P m) e = cc
+    next_by (none_left P) e = cc
 
     pub found_by : {N' : List ℕ} {given' : ℕ} {after : List Row} {x : Result Bool NoneLeft} → Stepped b i read write places N given rows N' given' after x
         → x ≡ Ok true → Finds v b places (Ok (Some i))
-    found_by (placed {d = true} P m X) e = finds_access (names (numbered_here W P m) (placed_here W P m) (ordered_step X) refl)
-    found_by (placed {d = false} P m X) e = cc
+    found_by (placed {d = true} P X) e = finds_access (names (numbered_here W P) (placed_here W P) (ordered_step X) refl)
+    found_by (placed {d = false} P X) e = cc
     found_by (unplaced a h g X) e = cc
-    found_by (none_left P m) e = cc
+    found_by (none_left P) e = cc
 
     pub full_by : {N' : List ℕ} {given' : ℕ} {after : List Row} {x : Result Bool NoneLeft} {none : NoneLeft}
         → Stepped b i read write places N given rows N' given' after x → x ≡ Err none → (found : Found) → IsErr found → Finds v b places found
-    full_by (placed P m X) e found h = cc
+    full_by (placed P X) e found h = cc
     full_by (unplaced a h g X) e found l = cc
-    full_by (none_left P m) e (Err n) h = let d = here.none_left W P m in finds_full d.0 d.1
-    full_by (none_left P m) e (Ok n) h = cc
+    full_by (none_left P) e (Err n) h = let d = here.none_left W P in finds_full d.0 d.1
+    full_by (none_left P) e (Ok n) h = cc

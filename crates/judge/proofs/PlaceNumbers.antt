@@ -10,7 +10,8 @@ use lib.ListN.{length, get_or, set, replicate, length-set, length-replicate}
 use lib.Seq.{get_or-set_same, get_or-set_other}
 use borrow.Author.Tests.{ne_eqb}
 use Rattle.format.proofs.Filled.{zeros}
-use Rattle.log_places.specs.Inner.Places.{numbers_from, numbers_of, given_of, Numbered, known, next, full}
+use Rattle.std.proofs.Common.{Ok}
+use Rattle.log_places.specs.Inner.Places.{numbers_from, numbers_of, given_of, Numbered, known, next}
 use Rattle.log_places.proofs.OwnNumbers.{from_long, from_at, from_past}
 
 -- how many places have no number
@@ -123,12 +124,11 @@ pub record Placed (N : List ℕ) (given p n : ℕ) : Type 0 where
 pub given_most : {N : List ℕ} {given : ℕ} → Places N given → given ≤ 1024
 given_most P = omega (arith, P.left)
 
-pub placed : {N : List ℕ} {given p : ℕ} {N' : List ℕ} {given' n most : ℕ} → Places N given → p < 1024 → Numbered N given p most N' given' n → (n ≡ 0 → ⊥)
+pub placed : {N : List ℕ} {given p : ℕ} {N' : List ℕ} {given' n most : ℕ} → Places N given → p < 1024 → Numbered N given p most N' given' (Ok n)
     → Placed N' given' p n
-placed P h (known k) m = record { places = P; number = refl; some = k }
-placed {N = N} {given = given} {p = p} P h (next k l) m =
+placed P h (known k) = record { places = P; number = refl; some = k }
+placed {N = N} {given = given} {p = p} P h (next k l) =
     record { places = places_next N given p P h k; number = numbered_own N given p P h k; some = omega arith }
-placed P h (full k l) m = absurd (m refl)
 
 -- while a place has no number, fewer are given than there are places
 some_left : (N : List ℕ) (p : ℕ) → p < length N → get_or N p 0 ≡ 0 → 0 < unnumbered N

@@ -9,6 +9,7 @@ use mathlib.Core.Logic.{◌⊎◌, inl, inr}
 use mathlib.Core.Option.{some, none}
 use lib.Dec.{T, eqb}
 use lib.ListN.{length, get_or, set}
+use Rattle.std.proofs.Common.{Ok}
 use Rattle.format.specs.Version.{Version}
 use Rattle.log_records.specs.Record.{Record, is_plain}
 use Rattle.log_order.specs.Accesses.{is_write}
@@ -17,7 +18,7 @@ use Rattle.log_conflicts.proofs.Clock.{second, feeds, feeds→, feeds←, draws�
 use Rattle.log_conflicts.proofs.Conflicts.{Eight}
 use Rattle.log_conflicts.proofs.RowClocks.{Heard, Kept, heard_same, kept_same, heard_unfed, kept_unfed, heard_told, kept_fed}
 use Rattle.log_clocks.specs.Inner.Rows.{Row, clock_of}
-use Rattle.log_places.specs.Inner.Places.{Numbered, known, next, full}
+use Rattle.log_places.specs.Inner.Places.{Numbered, known, next}
 use Rattle.log_rows.specs.Inner.Rows.{place_row}
 use Rattle.log_row_stores.specs.Inner.Table.{clock_at, Stored, Keeps, Hears, Told}
 use Rattle.judge.proofs.PlaceNumbers.{Places, numbered_own, numbered_other}
@@ -121,11 +122,10 @@ module _ (v : Version) (H : List Record) (eight : Eight H) (N : List ℕ) (given
   shows_numbered q w = shown_same v eight q w (clocks N rows q) (clocks after rows q) (row_moved q) (S q w)
 
 -- the same, whether it had one or not
-pub shows_placed : (v : Version) (H : List Record) → Eight H → {N : List ℕ} {given p : ℕ} {N' : List ℕ} {given' n most : ℕ} → Places N given → p < 1024 → (rows : List Row)
-    → Blank given rows → Shows v H N rows → Numbered N given p most N' given' n → Shows v H N' rows
+pub shows_placed : (v : Version) (H : List Record) → Eight H → {N : List ℕ} {given p : ℕ} {N' : List ℕ} {given' n most : ℕ} → Places N given → p < 1024
+    → (rows : List Row) → Blank given rows → Shows v H N rows → Numbered N given p most N' given' (Ok n) → Shows v H N' rows
 shows_placed v H ei P h rows B S (known k) = S
 shows_placed v H ei {N = N} {given = given} {p = p} P h rows B S (next k l) = shows_numbered v H ei N given p P h k rows B S
-shows_placed v H ei P h rows B S (full k l) = S
 
 pub blank_more : (given more : ℕ) (rows : List Row) → given ≤ more → Blank given rows → Blank more rows
 unfolding Blank

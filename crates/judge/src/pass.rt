@@ -10,7 +10,7 @@ ghost use Rattle.judge.specs.Inner.Found.{Finds, judgement_of, is_full};
 ghost use Rattle.judge.specs.Inner.Clear.{Clear, large_table};
 
 use log_clocks::Row;
-use log_effects::NoneLeft;
+use log_places::places::NoneLeft;
 use log_records::kind;
 
 // What a pass finds: the index of the first unordered access, or none; or that the log is at more places than the table has rows for.

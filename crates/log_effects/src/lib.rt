@@ -6,15 +6,18 @@ ghost use Rattle.log_places.specs.Inner.Places.{place_at, numbers_of, given_of, 
 ghost use Rattle.log_effects.specs.Inner.Step.{field_at, Numbers, Elsewhere, Ready, OtherStep, Stepped};
 
 use log_clocks::Row;
+use log_places::places::NoneLeft;
 use log_places::{places, records};
 use log_records::kind;
 
-// A record is at a place that no number is left for: the log is at more places than the table has rows for.
-#[derive(Clone, Copy)]
-pub struct NoneLeft;
-
-// The number of the place of the record at an index, or 0 where none is left.
-fn number_at(log: &[u8], index: usize, most: u16, numbers: &mut [u8], given: &mut u16) -> u16
+// The number of the place of the record at an index, if one is left.
+fn number_at(
+    log: &[u8],
+    index: usize,
+    most: u16,
+    numbers: &mut [u8],
+    given: &mut u16,
+) -> Result<u16, NoneLeft>
     requires { Numbers log.now index numbers.old }
     ensures { Numbered (numbers_of most numbers.old) (given_of most given.old) (place_at log.now index) most
         (numbers_of most numbers.new) (given_of most given.new) result }
@@ -39,7 +42,8 @@ fn elsewhere(log: &[u8], index: usize, kind: usize, thread: usize, time: u16, ta
     }
 }
 
-// The record at an index: whether it is an unordered access; if it is not, the table has taken it in. `read` and `write` are the kinds of volatile accesses that order something; `most` is how many places the table has rows for.
+// The record at an index: whether it is an unordered access; if it is not, the table has taken it in; or no number is left for its place. `read` and `write`
+// are the kinds of volatile accesses that order something; `most` is how many places the table has rows for.
 pub fn step(
     log: &[u8],
     index: usize,
@@ -58,28 +62,19 @@ pub fn step(
     let thread = records::thread_at(log, index);
     let time = index as u16 + 1;
     if log_rows::access(kind) {
-        let number = number_at(log, index, most, numbers, given);
-        if number == 0 {
-            return Err(NoneLeft);
-        }
+        let number = number_at(log, index, most, numbers, given)?;
         let at = log_rows::first(number);
         let unordered = log_row_stores::access(table, kind, thread, at, time);
         return Ok(unordered);
     }
     if log_rows::hears(kind, read) {
-        let number = number_at(log, index, most, numbers, given);
-        if number == 0 {
-            return Err(NoneLeft);
-        }
+        let number = number_at(log, index, most, numbers, given)?;
         let at = log_rows::first(number);
         log_row_stores::hear(table, thread, at);
         return Ok(false);
     }
     if log_rows::tells(kind, write) {
-        let number = number_at(log, index, most, numbers, given);
-        if number == 0 {
-            return Err(NoneLeft);
-        }
+        let number = number_at(log, index, most, numbers, given)?;
         let at = log_rows::first(number);
         log_row_stores::tell(table, at, thread, time);
         return Ok(false);

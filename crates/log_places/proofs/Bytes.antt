@@ -7,7 +7,7 @@ use lib.ListN.{get_or}
 use Rattle.format.specs.Bits.{bits_at}
 use Rattle.format.proofs.BitLaws.{bits_add, first_of, field_of, byte_at}
 use Rattle.log_records.specs.Record.{Record}
-use Rattle.log_records.specs.Packed.{kind_at, record_at}
+use Rattle.log_records.specs.Packed.{kind_at}
 use Rattle.log_records.proofs.RoundTrip.{record_fields, kind_bits, word24}
 use Rattle.log_places.specs.Inner.Places.{thread_at, place_at}
 

@@ -1,13 +1,15 @@
 -- The count of the kept moves is the length of their picks. Assumes nothing.
-use Prim.Native.Nat.{ℕ, suc, ◌+◌, ◌-◌, ◌<◌, ◌≤◌}
+use Prim.Native.Nat.{ℕ, zero, suc, ◌+◌, ◌≤◌}
 use native.Mathlib.Omega.{arith}
-use mathlib.Core.Path.{◌≡◌, refl, ap}
+use mathlib.Core.Path.{◌≡◌, refl, sym, ap, ◌∙◌}
 use mathlib.Core.Bool.{Bool, true, false, cond}
 use mathlib.Core.List.{List, [], ◌∷◌}
-use lib.ListN.{length}
+use lib.ListN.{length, take}
+use Rattle.std.specs.Prelude.{count_by}
+use Rattle.std.proofs.lemmas.List.Sums.{sum_by-cons}
 use Rattle.log_records.specs.Record.{Record}
 use Rattle.side_by_side.specs.Schedule.{Numbers, first_numbers, or_zero, numbers_after, next_after, picks_from, picks_of}
-use Rattle.log_schedule_writer.specs.Inner.Kept.{count_kept}
+use Rattle.log_schedule_writer.specs.Inner.Kept.{flagged, count_kept}
 
 module _ (kept : ℕ → Bool) where
   picks_length : (L : List Record) (i : ℕ) (τ : Numbers) (n : ℕ) → length (picks_from kept i τ n L) ≡ count_kept kept i (length L)
@@ -26,16 +28,20 @@ module _ (kept : ℕ → Bool) where
   unfolding picks_of
   picks_counted L = picks_length L 0 first_numbers 1
 
-  -- one more move, of those left: kept, or not
-  pub counted_one : (i n : ℕ) → i < n → kept i ≡ true → count_kept kept i (n - i) ≡ suc (count_kept kept (i + 1) (n - (i + 1)))
-  unfolding count_kept
-  counted_one i n h e = let k : n - i ≡ suc (n - (i + 1)) = omega arith in let j : i + 1 ≡ suc i = omega arith in rw (k, e, j)
+-- how many of the first flags are set
+shifted : (x : Bool) (flags : List Bool) (i n : ℕ) → count_kept (flagged (x ∷ flags)) (suc i) n ≡ count_kept (flagged flags) i n
+unfolding count_kept
+shifted x flags i zero = refl
+shifted x flags i (suc n) = rw (shifted x flags (suc i) n) refl
 
-  pub counted_none : (i n : ℕ) → i < n → kept i ≡ false → count_kept kept i (n - i) ≡ count_kept kept (i + 1) (n - (i + 1))
-  unfolding count_kept
-  counted_none i n h e = let k : n - i ≡ suc (n - (i + 1)) = omega arith in let j : i + 1 ≡ suc i = omega arith in rw (k, e, j)
-
-  -- none are left
-  pub none_left : (i n : ℕ) → n ≤ i → count_kept kept i (n - i) ≡ 0
-  unfolding count_kept
-  none_left i n h = let e : n - i ≡ 0 = omega arith in ap (count_kept kept i) e
+pub set_counted : (flags : List Bool) (n : ℕ) → n ≤ length flags → count_by (λ x. x) (take n flags) ≡ count_kept (flagged flags) 0 n
+unfolding count_kept
+set_counted flags zero h = refl
+set_counted [] (suc n) h = absurd (omega arith)
+set_counted (x ∷ flags) (suc n) h =
+    sum_by-cons (λ (y : Bool). cond y 1 0) x (take n flags) ∙ go x (set_counted flags n (omega arith) ∙ sym (shifted x flags 0 n))
+  where
+    go : (d : Bool) → count_by (λ y. y) (take n flags) ≡ count_kept (flagged (x ∷ flags)) 1 n
+        → cond d 1 0 + count_by (λ y. y) (take n flags) ≡ cond d (suc (count_kept (flagged (x ∷ flags)) 1 n)) (count_kept (flagged (x ∷ flags)) 1 n)
+    go true e = omega (arith, e)
+    go false e = omega (arith, e)

@@ -16,13 +16,7 @@ pub fn count(kept: &[bool], moves: usize) -> usize
     requires { moves ≤ length kept.now }
     ensures { (result ≡ count_kept (flagged kept.now) 0 moves) × (result ≤ moves) }
 {
-    let mut total = 0;
-    for index in 0..moves {
-        if kept[index] {
-            total += 1;
-        }
-    }
-    total
+    kept[..moves].iter().filter(|kept| **kept).count()
 }
 
 // The picks of the moves that are kept, renumbered, at the area's start; its other bytes keep their values. Thread 0 is thread 0, and each fork that is

@@ -3,7 +3,7 @@
 
 pub mod rows;
 
-ghost use Rattle.std.specs.Prelude.{◌≡◌, ◌+◌, ◌<◌, ◌≤◌, ◌++◌, length, replicate};
+ghost use Rattle.std.specs.Prelude.{◌≡◌, ◌+◌, ◌<◌, ◌≤◌, ◌++◌, length, replicate, IfSome};
 ghost use Rattle.format.specs.Area.{overwrite};
 ghost use Rattle.text.specs.Inner.Wrote.{Wrote};
 ghost use Rattle.plan_notation.specs.Tokens.{text_end, text_of};
@@ -145,22 +145,22 @@ pub fn lay_out(rows: &Rows, tokens: &[u8], marks: &[u16], area: &mut [u8], total
     text::put_byte(area, at, b'\n');
 }
 
-// The text of some tokens, gaps found and written at once, at the start of a room, and how long it is: 0 where fewer than 51 bytes of the room are left
+// The text of some tokens, gaps found and written at once, at the start of a room, and how long it is: none where fewer than 51 bytes of the room are left
 // before a token, since both are written with so many bytes as any has, and a line feed may follow.
-pub fn lay_within(rows: &Rows, looks: &Looks, tokens: &[u8], room: &mut [u8]) -> usize
+pub fn lay_within(rows: &Rows, looks: &Looks, tokens: &[u8], room: &mut [u8]) -> Option<usize>
     requires rows_value { (rows.now ≡ text_rows) × (looks.now ≡ look_rows) × Known tokens.now }
     requires tokens_len_bound { (length tokens.now ≤ 16384) × (0 < length room.old) }
-    ensures { LaidWithin tokens.now room.new result }
+    ensures { IfSome result (LaidWithin tokens.now room.new) }
 {
     let mut pen = Pen::start();
     let mut at = 0;
     for token in tokens {
         if room.len() - at < 51 {
-            return 0;
+            return None;
         }
         let width = rows.width(*token);
         let gap = pen.pass(looks, *token, width);
         at = put_wide(room, at, rows, *token, gap, width);
     }
-    text::put_byte(room, at, b'\n')
+    Some(text::put_byte(room, at, b'\n'))
 }

@@ -20,9 +20,8 @@ use Rattle.plan_parser.specs.Inner.Reading.{Sized, terms_left, State, Going, Non
 use Rattle.plan_parser.specs.declared.turns.Standing.{Standing}
 use Rattle.plan_parser.specs.declared.turns.Halt.{Halt}
 use Rattle.plan_parser.specs.Inner.Reading.{Turn}
-use Rattle.std.specs.Prelude.{Ok, Err}
+use Rattle.std.specs.Prelude.{Option, Some, None, Result, Ok, Err}
 use Rattle.plan_parser.specs.declared.Parsed.{Parsed}
-use Rattle.plan_parser.specs.declared.Parsed.TheVariants.{Read, Stopped, Full}
 use Rattle.plan_parser.proofs.FitLaws.{and_second}
 use Rattle.plan_parser.proofs.TurnLaws.{resized}
 use Rattle.plan_parser.proofs.TermLaws.{sorts_agree, no_number}
@@ -182,8 +181,9 @@ module _ (counts tokens goals₀ values₀ words₀ : List ℕ) (s₀ : Standing
       let v = b.state.values_few in
       (z.two, omega arith, z.number_there)
 
-  pub run_ends : s.goals ≡ 0 → (r : Parsed) → r ≡ Read (get_or values (s.values - 1) 0) (get_or values (s.values - 2) 0 - 1024) s.left s.at → Ran
-      tokens words₀ words s₀.left R r
+  pub run_ends : s.goals ≡ 0 → (r : Parsed)
+      → r ≡ record { root = get_or values (s.values - 1) 0; parameters = get_or values (s.values - 2) 0 - 1024; left = s.left; at = s.at }
+      → Ran tokens words₀ words s₀.left R (Some (Ok r))
   unfolding goals_of
   run_ends e r q =
       let f = rw e at b.state.fits in
@@ -209,20 +209,20 @@ module _ (counts tokens goals₀ values₀ words₀ : List ℕ) (s₀ : Standing
         kept = b.kept;
       }
 
-  nesting : R ≡ definition.stopped Reason.nesting (drop s.at tokens) → Ran tokens words₀ words s₀.left R (Stopped 1001 s.at)
+  nesting : R ≡ definition.stopped Reason.nesting (drop s.at tokens) → Ran tokens words₀ words s₀.left R (Some (Err (record { reason = 1001; at = s.at })))
   unfolding reason_of
   nesting p = record { reads = rw p (refl, refl); kept = b.kept }
 
   -- the arrays are short
-  full : length words < 1024 → Ran tokens words₀ words s₀.left R Full
+  full : length words < 1024 → Ran tokens words₀ words s₀.left R None
   full h = record { reads = each R; kept = b.kept }
     where
-      each : (x : definition.Parsed) → Reads tokens words s₀.left x Full
+      each : (x : definition.Parsed) → Reads tokens words s₀.left x None
       each (definition.parsed vs n rest) = h
       each (definition.stopped x rest) = h
 
   -- or goals or values are too many
-  crowded : (length words ≡ 1024 → R ≡ definition.stopped Reason.nesting (drop s.at tokens)) → (r : Parsed) → r ≡ crowded_by words s.at
+  crowded : (length words ≡ 1024 → R ≡ definition.stopped Reason.nesting (drop s.at tokens)) → (r : Option (Result Parsed Halt)) → r ≡ crowded_by words s.at
       → Ran tokens words₀ words s₀.left R r
   unfolding crowded_by
   crowded p r q = go (dec_lt (length words) 1024)
@@ -231,7 +231,7 @@ module _ (counts tokens goals₀ values₀ words₀ : List ℕ) (s₀ : Standing
       go (yes h) = rw (q, lt-ltb (length words) 1024 h) (full h)
       go (no h) = let m = b.state.sized.most_words in rw (q, le-ltb (length words) 1024 (omega (arith, h))) (nesting (p (omega (arith, h))))
 
-  pub run_many : length goals - 8 < s.goals → (r : Parsed) → r ≡ crowded_by words s.at → Ran tokens words₀ words s₀.left R r
+  pub run_many : length goals - 8 < s.goals → (r : Option (Result Parsed Halt)) → r ≡ crowded_by words s.at → Ran tokens words₀ words s₀.left R r
   run_many h = crowded (λ e. b.resumes.same ∙ parse_many counts goals (values_of words values s.values) terms (drop s.at tokens) s.goals
       b.resumes.steps (let w = (b.state.sized.whole e).0 in omega arith) some_steps)
 
@@ -239,13 +239,13 @@ module _ (counts tokens goals₀ values₀ words₀ : List ℕ) (s₀ : Standing
     few : s.goals ≤ 8400
     few = let m = b.state.sized.most_goals in omega arith
 
-    pub run_full : length values - 8 < s.values → (r : Parsed) → r ≡ crowded_by words s.at → Ran tokens words₀ words s₀.left R r
+    pub run_full : length values - 8 < s.values → (r : Option (Result Parsed Halt)) → r ≡ crowded_by words s.at → Ran tokens words₀ words s₀.left R r
     run_full h =
         let v = length_values words values s.values in
         crowded (λ e. b.resumes.same ∙ parse_full counts goals (values_of words values s.values) terms (drop s.at tokens) s.goals
         b.resumes.steps (omega (arith, d)) few (let w = (b.state.sized.whole e).1 in omega arith) some_steps)
 
-    pub run_short : (eqb s.left 0 && ltb (length words) 1024) ≡ true → Ran tokens words₀ words s₀.left R Full
+    pub run_short : (eqb s.left 0 && ltb (length words) 1024) ≡ true → Ran tokens words₀ words s₀.left R None
     run_short e = full (ltb-true (length words) 1024 (and_second (eqb s.left 0) (ltb (length words) 1024) e))
 
     pub none_left : (eqb s.left 0 && ltb (length words) 1024) ≡ false → NoneLeft words s
@@ -296,7 +296,7 @@ module _ (counts tokens goals₀ values₀ words₀ : List ℕ) (s₀ : Standing
           }
 
       pub run_stops : (goals' values' words' : List ℕ) (z : Halt) → Turned tokens counts goals values words goals' values' words' s (Err z)
-          → Ran tokens words₀ words' s₀.left R (Stopped z.reason z.at)
+          → Ran tokens words₀ words' s₀.left R (Some (Err z))
       unfolding resumed shown
       run_stops goals' values' words' z t =
           let p : R ≡ definition.stopped (reason_of z.reason) (drop z.at tokens) = turn_same goals' values' words' (Err z) t in
@@ -339,6 +339,6 @@ module _ (tokens goals goals' values words : List ℕ) (at p top left : ℕ) (fe
         fits = rw (first_goals, first_values) (procedure_fits p below);
       }
 
-  pub started : (counts words' : List ℕ) (r : Parsed) → Ran tokens words words' left (read_from counts tokens goals' values words start) r
+  pub started : (counts words' : List ℕ) (r : Option (Result Parsed Halt)) → Ran tokens words words' left (read_from counts tokens goals' values words start) r
       → Ran tokens words words' left (parse counts (procedure_goals p) (number 0 ∷ []) (terms_left words left) (drop at tokens)) r
   started counts words' r q = rw (first_goals, first_values) at q

@@ -16,23 +16,15 @@ ghost use Rattle.plan_parsing.specs.Parser.{parse};
 ghost use Rattle.plan_parsing.specs.Plan.{procedure_goals};
 ghost use Rattle.plan_parser.specs.Inner.Reading.{Sized, terms_left, State, Ran, read_from, crowded_by};
 
-use turns::Standing;
+use turns::{Halt, Standing};
 
-// An expression: its root, the parameters of its procedure, the terms that there is room for, and the next token's place. Or why reading stopped, and
-// before which token. Or the arrays are too short for it, and not for every text.
-#[derive(Clone, Copy)]
-pub enum Parsed {
-    Read {
-        root: usize,
-        parameters: usize,
-        left: usize,
-        at: usize,
-    },
-    Stopped {
-        reason: usize,
-        at: usize,
-    },
-    Full,
+// An expression: its root, the parameters of its procedure, the terms that there is room for, and the next token's place.
+#[derive(Clone, Copy, Debug, PartialEq, Eq)]
+pub struct Parsed {
+    pub root: usize,
+    pub parameters: usize,
+    pub left: usize,
+    pub at: usize,
 }
 
 // The stop where goals or values are too many.
@@ -41,13 +33,17 @@ const TOO_DEEP: usize = 1001;
 // Every goal is done: the expression is the last value, and the one before it the number of parameters.
 fn ended(values: &[usize], standing: Standing) -> Parsed
     requires { (2 ≤ standing.values) × (standing.values ≤ length values.now) × (1024 ≤ get_or values.now (standing.values - 2) 0) }
-    ensures { result ≡ Parsed.Read (get_or values.now (standing.values - 1) 0)
-        (get_or values.now (standing.values - 2) 0 - 1024) standing.left standing.at }
+    ensures { result ≡ record {
+      root = get_or values.now (standing.values - 1) 0;
+      parameters = get_or values.now (standing.values - 2) 0 - 1024;
+      left = standing.left;
+      at = standing.at;
+    } }
 {
     let count = standing.values;
     let root = values[count - 1];
     let parameters = values[count - 2] - 1024;
-    Parsed::Read {
+    Parsed {
         root,
         parameters,
         left: standing.left,
@@ -56,16 +52,16 @@ fn ended(values: &[usize], standing: Standing) -> Parsed
 }
 
 // Goals or values are more than there is room for: too many, or the arrays are short.
-fn crowded(words: &[usize], at: usize) -> Parsed
+fn crowded(words: &[usize], at: usize) -> Option<Result<Parsed, Halt>>
     ensures { result ≡ crowded_by words.now at }
 {
     if words.len() < 1024 {
-        return Parsed::Full;
+        return None;
     }
-    Parsed::Stopped {
+    Some(Err(Halt {
         reason: TOO_DEEP,
         at,
-    }
+    }))
 }
 
 // There is no room for a term, and a longer array would have some.
@@ -75,7 +71,7 @@ fn is_full(words: &[usize], left: usize) -> bool
     left == 0 && words.len() < 1024
 }
 
-// Goal after goal.
+// Goal after goal. There is no answer where the arrays are too short for this text, and not for every one.
 fn run(
     tokens: &[u8],
     counts: &[u8],
@@ -83,7 +79,7 @@ fn run(
     values: &mut [usize],
     words: &mut [usize],
     start: Standing,
-) -> Parsed
+) -> Option<Result<Parsed, Halt>>
     requires { State tokens.now goals.old values.old words.old start }
     ensures { Ran tokens.now words.old words.new start.left
         (read_from counts.now tokens.now goals.old values.old words.old start) result }
@@ -97,22 +93,18 @@ fn run(
             return crowded(words, standing.at);
         }
         if is_full(words, standing.left) {
-            return Parsed::Full;
+            return None;
         }
         match turns::take(tokens, counts, goals, values, words, standing) {
             Ok(next) => standing = next,
-            Err(stop) => {
-                return Parsed::Stopped {
-                    reason: stop.reason,
-                    at: stop.at,
-                };
-            }
+            Err(halt) => return Some(Err(halt)),
         }
     }
-    ended(values, standing)
+    Some(Ok(ended(values, standing)))
 }
 
-// The procedure of this number, from a token on: main is an expression, and any other has its heading before it. Goals and values are lent room.
+// The procedure of this number, from a token on: main is an expression, and any other has its heading before it. Or why reading stops, and
+// before which token. There is no answer where the arrays are too short for this text, and not for every one. Goals and values are lent room.
 pub fn procedure(
     tokens: &[u8],
     at: usize,
@@ -122,7 +114,7 @@ pub fn procedure(
     left: usize,
     goals: &mut [u16],
     values: &mut [usize],
-) -> Parsed
+) -> Option<Result<Parsed, Halt>>
     requires { (length tokens.now ≤ 16384) × (at ≤ length tokens.now) × (number < 32) × (left ≤ length words.old) × Ordered words.old
         × Sized goals.old values.old words.old }
     ensures { Ran tokens.now words.old words.new left

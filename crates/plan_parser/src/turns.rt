@@ -17,7 +17,7 @@ pub struct Standing {
 }
 
 // Why reading stops, and before the token at which place.
-#[derive(Clone, Copy)]
+#[derive(Clone, Copy, Debug, PartialEq, Eq)]
 pub struct Halt {
     pub reason: usize,
     pub at: usize,

@@ -127,22 +127,25 @@ fn header(tokens: &[u8]) -> Heading
     volatiles(tokens, version, 2)
 }
 
-// What comes of a plan's tokens: a plan, held in the arrays; or why it is none, and before which token; or the arrays are too short, and not for every text.
-#[derive(Clone, Copy)]
-pub enum Outcome {
-    Plan {
-        version: usize,
-        mask: usize,
-        procedures: usize,
-        left: usize,
-    },
-    Refused {
-        kind: usize,
-        reason: usize,
-        at: usize,
-    },
-    Full,
+// A plan, held in the arrays: its version, the mask of its volatile fields, how many procedures it has, and how many terms there is room for.
+#[derive(Clone, Copy, Debug, PartialEq, Eq)]
+pub struct HeldPlan {
+    pub version: usize,
+    pub mask: usize,
+    pub procedures: usize,
+    pub left: usize,
 }
+
+// Why tokens are no plan: the kind of the fault, the parser's reason, and before which token.
+#[derive(Clone, Copy, Debug, PartialEq, Eq)]
+pub struct PlanFault {
+    pub kind: usize,
+    pub reason: usize,
+    pub at: usize,
+}
+
+// What comes of a plan's tokens. There is no answer where the arrays are too short for them, and not for every text.
+pub type Outcome = Option<Result<HeldPlan, PlanFault>>;
 
 // The kinds of faults: reading stops, for the parser's reason; no such version; a slot that nothing binds; more than 32 procedures.
 pub const READING: usize = 0;
@@ -169,35 +172,36 @@ fn keep(
     words: &[usize],
     roots: &mut [usize; 32],
     parameters: &mut [usize; 32],
-    root: usize,
-    count: usize,
-    rest: Rest,
+    parsed: Parsed,
 ) -> ControlFlow<Outcome, Rest>
-    requires { (procedure < 32) × Ordered words.now × (root < 1024) × (count < 9) }
+    requires { (procedure < 32) × Ordered words.now × (parsed.root < 1024) × (parsed.parameters < 9) }
     ensures { Keeps tokens.now heading procedure at words.now roots.old parameters.old
-        roots.new parameters.new root count rest result }
+        roots.new parameters.new parsed result }
 {
-    if !plan_bound_slots::closed_with(words, root, count) {
-        return ControlFlow::Break(Outcome::Refused {
+    if !plan_bound_slots::closed_with(words, parsed.root, parsed.parameters) {
+        return ControlFlow::Break(Some(Err(PlanFault {
             kind: SLOTS,
             reason: 0,
             at,
-        });
+        })));
     }
-    roots[procedure] = root;
-    parameters[procedure] = count;
-    if ahead(tokens, rest.at) == tokens::END {
-        return ControlFlow::Break(Outcome::Plan {
+    roots[procedure] = parsed.root;
+    parameters[procedure] = parsed.parameters;
+    if ahead(tokens, parsed.at) == tokens::END {
+        return ControlFlow::Break(Some(Ok(HeldPlan {
             version: heading.version,
             mask: heading.mask,
             procedures: procedure + 1,
-            left: rest.left,
-        });
+            left: parsed.left,
+        })));
     }
-    ControlFlow::Continue(rest)
+    ControlFlow::Continue(Rest {
+        at: parsed.at,
+        left: parsed.left,
+    })
 }
 
-// Procedure by procedure: what is left behind it, or what comes of the plan.
+// One procedure: what is left behind it, or what comes of the plan.
 fn step(
     tokens: &[u8],
     counts: &[u8],
@@ -218,23 +222,15 @@ fn step(
     match plan_parser::procedure(
         tokens, rest.at, procedure, counts, words, rest.left, goals, values,
     ) {
-        Parsed::Stopped { reason, at } => ControlFlow::Break(Outcome::Refused {
+        Some(Ok(parsed)) => keep(
+            tokens, heading, procedure, rest.at, words, roots, parameters, parsed,
+        ),
+        Some(Err(halt)) => ControlFlow::Break(Some(Err(PlanFault {
             kind: READING,
-            reason,
-            at,
-        }),
-        Parsed::Read {
-            root,
-            parameters: count,
-            left,
-            at,
-        } => {
-            let behind = Rest { at, left };
-            keep(
-                tokens, heading, procedure, rest.at, words, roots, parameters, root, count, behind,
-            )
-        }
-        Parsed::Full => ControlFlow::Break(Outcome::Full),
+            reason: halt.reason,
+            at: halt.at,
+        }))),
+        None => ControlFlow::Break(None),
     }
 }
 
@@ -266,11 +262,11 @@ fn procedures(
             ControlFlow::Break(outcome) => return outcome,
         }
     }
-    Outcome::Refused {
+    Some(Err(PlanFault {
         kind: END,
         reason: 0,
         at: rest.at,
-    }
+    }))
 }
 
 // A plan's tokens, into arrays; every list of tokens gets the definition's answer. Room for the parameter counts, goals and values is lent.
@@ -289,11 +285,11 @@ pub fn read_plan(
 {
     let heading = header(tokens);
     if heading.version > 1 {
-        return Outcome::Refused {
+        return Some(Err(PlanFault {
             kind: VERSION,
             reason: 0,
             at: heading.at,
-        };
+        }));
     }
     let count = put_counts(tokens, counts);
     procedures(

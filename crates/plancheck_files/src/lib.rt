@@ -10,7 +10,7 @@ ghost use Rattle.plancheck_words.specs.Words.{Answers};
 ghost use Rattle.text_log_words.specs.Words.{SaysOf};
 ghost use Rattle.plancheck_files.specs.Printed.{Added, picks_in};
 
-use names::Found;
+use names::Known;
 use plancheck_words::Word;
 use std::io;
 use std::io::Write;
@@ -47,7 +47,7 @@ fn with_schedule<R: Files + Input + Print + Eprint + Alloc>(
     plan: &[u8],
     argument: &[u8],
 ) -> io::Result<()> {
-    if (argument.len() == 0) | numerals::is_numeral(argument) {
+    if argument.is_empty() || numerals::is_numeral(argument) {
         return print_answer(rt, word, plan, argument);
     }
     let mut bytes = files::schedule_area();
@@ -122,10 +122,10 @@ pub fn obey<R: Files + Input + Print + Eprint + Alloc>(
     third: &[u8],
 ) -> io::Result<()> {
     match names::find(count, word, second, third) {
-        Found::Plan(known) => with_plan(rt, known, first, second),
-        Found::Log(known) => with_log(rt, known, first),
-        Found::Files => with_names(rt, first, second, third),
-        Found::Nothing => names::print_uses(rt),
+        Some(Known::Plan(known)) => with_plan(rt, known, first, second),
+        Some(Known::Log(known)) => with_log(rt, known, first),
+        Some(Known::Files) => with_names(rt, first, second, third),
+        None => names::print_uses(rt),
     }
 }
 

@@ -4,83 +4,70 @@ use std::io;
 use text_inputs::numerals;
 use text_log_words::LogWord;
 
-// A word about a plan or about a log, the one that writes two files, or none.
+// A word about a plan or about a log, or the one that writes two files.
 #[derive(Clone, Copy)]
-pub enum Found {
+pub enum Known {
     Plan(Word),
     Log(LogWord),
     Files,
-    Nothing,
 }
 
 // A word that asks for a plan alone.
-fn of_plan(word: &[u8]) -> Found {
-    match word {
-        b"check" => Found::Plan(Word::Check),
-        b"show" => Found::Plan(Word::Show),
-        b"read" => Found::Plan(Word::Read),
-        b"canonical" => Found::Plan(Word::Canonical),
-        b"bound" => Found::Plan(Word::Bound),
-        _ => Found::Nothing,
-    }
+fn of_plan(word: &[u8]) -> Option<Known> {
+    let known = match word {
+        b"check" => Word::Check,
+        b"show" => Word::Show,
+        b"read" => Word::Read,
+        b"canonical" => Word::Canonical,
+        b"bound" => Word::Bound,
+        _ => return None,
+    };
+    Some(Known::Plan(known))
 }
 
 // A word that asks for a plan and a schedule.
-fn of_schedule(word: &[u8]) -> Found {
-    match word {
-        b"play" => Found::Plan(Word::Play),
-        b"states" => Found::Plan(Word::States),
-        b"log" => Found::Plan(Word::Log),
-        b"witness" => Found::Plan(Word::Witness),
-        b"charge" => Found::Plan(Word::Charge),
-        _ => Found::Nothing,
-    }
+fn of_schedule(word: &[u8]) -> Option<Known> {
+    let known = match word {
+        b"play" => Word::Play,
+        b"states" => Word::States,
+        b"log" => Word::Log,
+        b"witness" => Word::Witness,
+        b"charge" => Word::Charge,
+        _ => return None,
+    };
+    Some(Known::Plan(known))
 }
 
 // A word that asks for a file and a number.
-fn of_number(word: &[u8], number: usize) -> Found {
+fn of_number(word: &[u8], number: usize) -> Option<Known> {
     match word {
-        b"judge" => Found::Log(LogWord::Judge(number)),
-        b"diagram" => Found::Log(LogWord::Diagram(number)),
-        b"interleavings" => Found::Plan(Word::Interleavings(number)),
+        b"judge" => Some(Known::Log(LogWord::Judge(number))),
+        b"diagram" => Some(Known::Log(LogWord::Diagram(number))),
+        b"interleavings" => Some(Known::Plan(Word::Interleavings(number))),
         _ => of_schedule(word),
     }
 }
 
-// A word that asks for a plan, a schedule and a number.
-fn of_pick(word: &[u8], number: usize) -> Found {
-    match word {
-        b"preview" => Found::Plan(Word::Preview(number)),
-        _ => Found::Nothing,
-    }
-}
-
 // A word with three arguments, of which the last may have to be a number.
-fn of_three(word: &[u8], third: &[u8]) -> Found {
-    if word == b"comtrade".as_slice() {
-        return Found::Files;
+fn of_three(word: &[u8], third: &[u8]) -> Option<Known> {
+    match word {
+        b"comtrade" => Some(Known::Files),
+        b"preview" if numerals::is_numeral(third) => {
+            Some(Known::Plan(Word::Preview(numerals::number_of(third))))
+        }
+        _ => None,
     }
-    if numerals::is_numeral(third) {
-        return of_pick(word, numerals::number_of(third));
-    }
-    Found::Nothing
 }
 
 // The word of this name in a command of so many words, the program's own name among them.
-pub fn find(count: usize, word: &[u8], second: &[u8], third: &[u8]) -> Found {
-    if count == 3 {
-        return of_plan(word);
+pub fn find(count: usize, word: &[u8], second: &[u8], third: &[u8]) -> Option<Known> {
+    match count {
+        3 => of_plan(word),
+        4 if numerals::is_numeral(second) => of_number(word, numerals::number_of(second)),
+        4 => of_schedule(word),
+        5 => of_three(word, third),
+        _ => None,
     }
-    if count == 5 {
-        return of_three(word, third);
-    }
-    if count != 4 {
-        return Found::Nothing;
-    }
-    if numerals::is_numeral(second) {
-        return of_number(word, numerals::number_of(second));
-    }
-    of_schedule(word)
 }
 
 // A line to each use.

@@ -29,14 +29,13 @@ use Rattle.plan_lexer.specs.Place.{place_in, place_of}
 use Rattle.plan_parsing.specs.Plan.{Reading, plan, fault, Fault, read_plan}
 use Rattle.plan_parsing.proofs.PlanRight.{program_right}
 use Rattle.plan_writer.specs.Inner.Held.{held_from, held_program, Writable}
-use Rattle.plan_reader.specs.Inner.Reading.{fault_of, ReadBy, ReadAs}
-use Rattle.plan_reader.specs.declared.Outcome.{Outcome}
-use Rattle.plan_reader.specs.declared.Outcome.TheVariants.{Plan, Refused, Full}
+use Rattle.plan_reader.specs.Inner.Reading.{fault_of, Outcome, ReadBy, ReadAs}
+use Rattle.plan_reader.specs.declared.HeldPlan.{HeldPlan}
 use Rattle.read.specs.Read as texts
 use Rattle.read.specs.Read.{Failure, of_fault, too_many, short_for_plan, failed_at, answer_by, area_by, read_answer, read_area}
 use Rattle.read.specs.Answer.{failure_of, known_kind, answered}
 use Rattle.read.specs.Inner.Begun.{Held, told_answer, PlanTold, OfText, Lent, TokensPlan, TokensFault, TokensTold, Tried}
-use Rattle.std.specs.Prelude.{Option, Some, None, Result, Err}
+use Rattle.std.specs.Prelude.{Option, Some, None, Result, Ok, Err}
 use Rattle.read.specs.declared.Stop.{Stop}
 use Rattle.read.specs.declared.Stop.TheVariants as stop
 use Rattle.read.specs.declared.ReadError.TheVariants.{Failed}
@@ -199,10 +198,13 @@ small_mask : (v m n : ℕ) (words roots counts : List ℕ) → (held_program v m
 unfolding held_program
 small_mask v m n words roots counts h = h
 
-pub plan_in_arrays : {ts words roots counts : List ℕ} {v m n left : ℕ} {r : Outcome} → OfText ts → ReadAs ts words roots counts r
-    → r ≡ Plan v m n left → length words ≤ 1024
-    → Held v m n left words roots counts
-plan_in_arrays {ts} {words} {roots} {counts} {v} {m} {n} {left} o x f b =
+pub plan_in_arrays : {ts words roots counts : List ℕ} {held : HeldPlan} {r : Outcome} → OfText ts → ReadAs ts words roots counts r
+    → r ≡ Some (Ok held) → length words ≤ 1024
+    → Held held.version held.mask held.procedures held.left words roots counts
+plan_in_arrays {ts} {words} {roots} {counts} {held} o x f b =
+    let v = held.version in
+    let m = held.mask in
+    let n = held.procedures in
     let text = o.text in
     let h = subst (ReadBy ts words roots counts) f x.so in
     let says : read_plan (codes_of text) ≡ plan (held_program v m n words roots counts) = subst
@@ -216,11 +218,6 @@ plan_in_arrays {ts} {words} {roots} {counts} {v} {m} {n} {left} o x f b =
       sized = h.0.sized;
       few_words = b;
     }
-
--- ---- arrays that are too short
-
-pub full_short : {ts words roots counts : List ℕ} {r : Outcome} → ReadAs ts words roots counts r → r ≡ Full → length words < 1024
-full_short {ts} {words} {roots} {counts} x f = subst (ReadBy ts words roots counts) f x.so
 
 by_plan : (text area : List ℕ) (g : Program) → read_plan (codes_of text) ≡ plan g → (area' : List ℕ) (told : Result ℕ Stop) → PlanTold g area area' told
     → (told_answer text told ≡ answer_by text area (read_plan (codes_of text))) × (area' ≡ area_by area (read_plan (codes_of text)))
@@ -236,25 +233,6 @@ pub plan_told : (text area area' : List ℕ) (told : Result ℕ Stop) {ts : List
     → (told_answer text told ≡ answer_by text area (read_plan (codes_of text))) × (area' ≡ area_by area (read_plan (codes_of text)))
 plan_told text area area' told e x =
     by_plan text area x.program (subst (λ (us : List ℕ). read_plan us ≡ plan x.program) e x.says) area' told x.plan_told
-
--- what the reader says of tokens
-pub plan_tokens : {ts words roots counts area area' : List ℕ} {told : Result ℕ Stop} {v m n left : ℕ} {r : Outcome} → ReadAs ts words roots counts r → r ≡ Plan v m n left
-    → PlanTold (held_program v m n words roots counts) area area' told → TokensPlan ts area area' told
-plan_tokens {ts} {words} {roots} {counts} {v = v} {m} {n} x f w =
-    let h = subst (ReadBy ts words roots counts) f x.so in
-    record { program = held_program v m n words roots counts; says = h.0.says; plan_told = w }
-
-pub fault_tokens : {ts words roots counts area : List ℕ} {kind reason at k : ℕ} {r : Outcome} → ReadAs ts words roots counts r → r ≡ Refused kind reason at
-    → k ≡ known_kind kind → TokensFault ts area area (Err (stop.Token at k reason))
-fault_tokens {ts} {words} {roots} {counts} {kind = kind} {reason} {at} x f q =
-    record {
-      kind = kind;
-      reason = reason;
-      at = at;
-      says = subst (ReadBy ts words roots counts) f x.so;
-      told_is = ap (λ (j : ℕ). Err (stop.Token at j reason)) q;
-      kept = refl;
-    }
 
 -- ---- lengths
 

@@ -10,7 +10,7 @@ ghost use Rattle.plan_packed.specs.Inner.Steps.{Ordered};
 ghost use Rattle.plan_parser.specs.Inner.Reading.{Sized};
 
 use plan_lexer::places;
-use plan_reader::Outcome;
+use plan_reader::HeldPlan;
 
 // Why `read` writes no plan.
 #[derive(Clone, Copy, Debug, PartialEq, Eq)]
@@ -70,26 +70,30 @@ enum Stop {
 
 // A plan that is held in arrays, where the area has room for it.
 fn write(
-    version: usize,
-    mask: usize,
-    procedures: usize,
-    left: usize,
+    plan: HeldPlan,
     words: &[usize],
     roots: &[usize; 32],
     parameters: &[usize; 32],
     area: &mut [u8],
 ) -> Result<usize, Stop>
-    requires { Held version mask procedures left words.now roots.now parameters.now }
-    ensures { PlanTold (held_program version mask procedures words.now roots.now parameters.now)
+    requires { Held plan.version plan.mask plan.procedures plan.left words.now roots.now parameters.now }
+    ensures { PlanTold (held_program plan.version plan.mask plan.procedures words.now roots.now parameters.now)
         area.old area.new result }
 {
-    let terms = words.len() - left;
-    let length = 8 + 2 * procedures + 5 * terms;
+    let terms = words.len() - plan.left;
+    let length = 8 + 2 * plan.procedures + 5 * terms;
     if area.len() < length {
         return Err(Stop::Short);
     }
     plan_writer::write(
-        version, mask, procedures, terms, words, roots, parameters, area,
+        plan.version,
+        plan.mask,
+        plan.procedures,
+        terms,
+        words,
+        roots,
+        parameters,
+        area,
     );
     Ok(length)
 }
@@ -117,33 +121,14 @@ fn read_tokens(
         &mut parameters,
         goals,
         values,
-    );
+    )?;
     match outcome {
-        Outcome::Refused { kind, reason, at } => {
-            Some(Err(Stop::Token {
-                at,
-                kind: known(kind),
-                reason,
-            }))
-        }
-        Outcome::Plan {
-            version,
-            mask,
-            procedures,
-            left,
-        } => {
-            Some(write(
-                version,
-                mask,
-                procedures,
-                left,
-                words,
-                &roots,
-                &parameters,
-                area,
-            ))
-        }
-        Outcome::Full => None,
+        Ok(plan) => Some(write(plan, words, &roots, &parameters, area)),
+        Err(fault) => Some(Err(Stop::Token {
+            at: fault.at,
+            kind: known(fault.kind),
+            reason: fault.reason,
+        })),
     }
 }
 

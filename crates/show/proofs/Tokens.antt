@@ -1,5 +1,5 @@
 -- The tokens of an accepted plan, as the code has them. Assumes nothing.
-use Prim.Native.Nat.{ℕ, ◌-◌, ◌≤◌, ◌<◌}
+use Prim.Native.Nat.{ℕ, ◌-◌, ◌≤◌}
 use native.Mathlib.Omega.{arith}
 use mathlib.Core.Path.{◌≡◌, sym, ap, subst, ◌∙◌}
 use mathlib.Core.List.{List}
@@ -17,9 +17,8 @@ use Rattle.text.specs.Inner.Wrote.{Wrote}
 use Rattle.plan_notation.specs.Inner.Known.{Known}
 use Rattle.plan_notation.specs.Shown.{shown_plan}
 use Rattle.plan_notation.proofs.ShownCodes.{plan_fit, known}
-use Rattle.plan_layout.specs.Inner.Marks.{LaidWithin}
 use Rattle.plan_tokens.specs.Inner.Begun.{Given}
-use Rattle.show.specs.Inner.Begun.{BytesWritten, TextWritten}
+use Rattle.show.specs.Inner.Begun.{TextWritten}
 
 pub given : {plan words : List ℕ} {r : Checked} {u : Unit {0}} → answered r ≡ refusal plan → r ≡ Ok u → Loaded plan (terms plan) words → Given plan words
 given {plan} {r = r} e q l = record { passes = passed_none (refusal plan) r e q; loaded = l }
@@ -46,12 +45,3 @@ known_tokens {plan} g w =
     let f = plan_fit (program_of plan) (right_program plan g.passes) in
     let e = first_tokens plan w in
     (subst Known (sym e) (known f), omega (arith, ap length e, f.few))
-
--- what a room begins with is the text of the tokens that were laid out in it
-pub room_text : {ts room area area' : List ℕ} {n : ℕ} {r : Result ℕ Refusal} → LaidWithin ts room n → 0 < n → BytesWritten (take (n - 0) room) area area' r
-    → TextWritten ts area area' r
-room_text {ts} {room} {area} {area'} {n} {r} l h w =
-    subst (λ (bytes : List ℕ). BytesWritten bytes area area' r) (ap (λ (m : ℕ). take m room) (same n) ∙ l.laid h) w
-  where
-    same : (n : ℕ) → n - 0 ≡ n
-    same n = omega arith

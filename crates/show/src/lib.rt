@@ -62,10 +62,9 @@ fn write(
 {
     let rows = rows::rows();
     let looks = looks::all();
-    let laid = plan_layout::lay_within(&rows, &looks, tokens, room);
-    if laid == 0 {
+    let Some(laid) = plan_layout::lay_within(&rows, &looks, tokens, room) else {
         return write_marked(&rows, &looks, tokens, marks, area);
-    }
+    };
     copy(&room[0..laid], area)
 }
 

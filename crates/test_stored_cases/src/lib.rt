@@ -55,37 +55,9 @@ pub fn version_case(case: &[u8]) -> bool {
 
 // Whether the area begins with the records, and its other bytes are as they were filled.
 fn begins(area: &[u8], records: &[u8]) -> bool {
-    if area.len() < records.len() {
-        return false;
-    }
-    let mut same = true;
-    for index in 0..area.len() {
-        if index < records.len() {
-            same = same & (area[index] == records[index]);
-        } else {
-            same = same & (area[index] == FILL);
-        }
-    }
-    same
-}
-
-// Whether the bytes for the outcome are those stored.
-fn same_bytes(out: &[u8; 40], stored: &[u8]) -> bool
-    requires { 40 ≤ length stored.now }
-{
-    let mut same = true;
-    for index in 0..40 {
-        same = same & (out[index] == stored[index]);
-    }
-    same
-}
-
-// A play with a log area of that size, or of the whole area.
-fn play_in(plan: &[u8], schedule: &[u8], area: &mut [u8], size: usize, out: &mut [u8; 40]) -> u64 {
-    if size < area.len() {
-        ruqzhemil::ruqzhemil_play(plan, schedule, &mut area[..size], out)
-    } else {
-        ruqzhemil::ruqzhemil_play(plan, schedule, area, out)
+    match area.strip_prefix(records) {
+        Some(rest) => rest.iter().all(|byte| *byte == FILL),
+        None => false,
     }
 }
 
@@ -117,16 +89,21 @@ pub fn play_case(case: &[u8]) -> bool {
     }
     let mut area = lent_area();
     let mut out = [FILL; 40];
-    let got = play_in(&case[70..end], &case[end..last], &mut area, size, &mut out);
-    (got == number_at(case, 14)) & same_bytes(&out, &case[30..70]) & begins(&area, &case[last..])
+    let got = ruqzhemil::ruqzhemil_play(
+        &case[70..end],
+        &case[end..last],
+        &mut area[..size],
+        &mut out,
+    );
+    got == number_at(case, 14) && out.as_slice() == &case[30..70] && begins(&area, &case[last..])
 }
 
 // The version that a plan names in its first bits, 0 for none.
 fn version_of(plan: &[u8]) -> u64 {
-    if plan.len() == 0 {
-        return 0;
+    match plan.first() {
+        Some(byte) => (*byte / 16) as u64,
+        None => 0,
     }
-    (byte_numbers::wide(plan[0]) / 16) as u64
 }
 
 // What judge returns for the records of the run, where it is told the plan's version.
@@ -154,19 +131,6 @@ fn judged_number(judgement: Result<Option<usize>, Refusal>) -> u64 {
     }
 }
 
-// The judgement of a play with a log area of that size, or of the whole area.
-fn both_in(plan: &[u8], schedule: &[u8], area: &mut [u8], size: usize) -> u64 {
-    if size < area.len() {
-        let both = agreement::play_and_judge(plan, schedule, &mut area[..size]);
-        let judgement = both.judgement;
-        judged_number(judgement)
-    } else {
-        let both = agreement::play_and_judge(plan, schedule, area);
-        let judgement = both.judgement;
-        judged_number(judgement)
-    }
-}
-
 // What play_and_judge says: judge's answer to the records of the run, or the play's own refusal.
 pub fn both_case(case: &[u8]) -> bool {
     if case.len() < 70 {
@@ -182,7 +146,8 @@ pub fn both_case(case: &[u8]) -> bool {
         return false;
     }
     let mut area = lent_area();
-    let got = both_in(&case[70..end], &case[end..last], &mut area, size);
+    let both = agreement::play_and_judge(&case[70..end], &case[end..last], &mut area[..size]);
+    let got = judged_number(both.judgement);
     let played = number_at(case, 14);
     if played == 0 {
         got == number_at(case, 22)
@@ -199,15 +164,6 @@ pub fn log_case(case: &[u8]) -> bool {
     ruqzhemil::ruqzhemil_judge(number_at(case, 0), &case[16..]) == number_at(case, 8)
 }
 
-// A data file in an area of that size, or in the whole area.
-fn comtrade_in(log: &[u8], area: &mut [u8], size: usize) -> u64 {
-    if size < area.len() {
-        ruqzhemil::ruqzhemil_comtrade(log, &mut area[..size])
-    } else {
-        ruqzhemil::ruqzhemil_comtrade(log, area)
-    }
-}
-
 // What comtrade returns for a log, and the whole area.
 pub fn file_case(case: &[u8]) -> bool {
     if case.len() < 14 {
@@ -222,8 +178,8 @@ pub fn file_case(case: &[u8]) -> bool {
         return false;
     }
     let mut area = file_area();
-    let got = comtrade_in(&case[14..end], &mut area, size);
-    (got == number_at(case, 6)) & begins(&area, &case[end..])
+    let got = ruqzhemil::ruqzhemil_comtrade(&case[14..end], &mut area[..size]);
+    got == number_at(case, 6) && begins(&area, &case[end..])
 }
 
 // What charge returns for a plan, a schedule and an option.
@@ -240,17 +196,6 @@ pub fn charge_case(case: &[u8]) -> bool {
     got == number_at(case, 12)
 }
 
-// Whether the bytes for the preview are those stored.
-fn same_preview(out: &[u8; 8], stored: &[u8]) -> bool
-    requires { 8 ≤ length stored.now }
-{
-    let mut same = true;
-    for index in 0..8 {
-        same = same & (out[index] == stored[index]);
-    }
-    same
-}
-
 // What preview returns for a plan, a schedule and a pick, and the eight bytes.
 pub fn preview_case(case: &[u8]) -> bool {
     if case.len() < 28 {
@@ -264,16 +209,7 @@ pub fn preview_case(case: &[u8]) -> bool {
     let mut out = [FILL; 8];
     let pick = number_at(case, 4);
     let got = ruqzhemil::ruqzhemil_preview(&case[28..end], &case[end..last], pick, &mut out);
-    (got == number_at(case, 12)) & same_preview(&out, &case[20..28])
-}
-
-// A plan written in an area of that size, or in the whole area.
-fn canonical_in(plan: &[u8], area: &mut [u8], size: usize) -> u64 {
-    if size < area.len() {
-        ruqzhemil::ruqzhemil_canonical(plan, &mut area[..size])
-    } else {
-        ruqzhemil::ruqzhemil_canonical(plan, area)
-    }
+    got == number_at(case, 12) && out.as_slice() == &case[20..28]
 }
 
 // What canonical returns for a plan, and the whole area.
@@ -290,17 +226,8 @@ pub fn plan_case(case: &[u8]) -> bool {
         return false;
     }
     let mut area = lent_area();
-    let got = canonical_in(&case[12..end], &mut area, size);
-    (got == number_at(case, 4)) & begins(&area, &case[end..])
-}
-
-// A plan as text in an area of that size, or in the whole area.
-fn show_in(plan: &[u8], area: &mut [u8], size: usize) -> u64 {
-    if size < area.len() {
-        ruqzhemil::ruqzhemil_show(plan, &mut area[..size])
-    } else {
-        ruqzhemil::ruqzhemil_show(plan, area)
-    }
+    let got = ruqzhemil::ruqzhemil_canonical(&case[12..end], &mut area[..size]);
+    got == number_at(case, 4) && begins(&area, &case[end..])
 }
 
 // What show returns for a plan, and the whole area.
@@ -314,17 +241,8 @@ pub fn text_case(case: &[u8]) -> bool {
         return false;
     }
     let mut area = text_area();
-    let got = show_in(&case[12..end], &mut area, size);
-    (got == number_at(case, 4)) & begins(&area, &case[end..])
-}
-
-// A text read into an area of that size, or into the whole area.
-fn read_in(text: &[u8], area: &mut [u8], size: usize) -> u64 {
-    if size < area.len() {
-        ruqzhemil::ruqzhemil_read(text, &mut area[..size])
-    } else {
-        ruqzhemil::ruqzhemil_read(text, area)
-    }
+    let got = ruqzhemil::ruqzhemil_show(&case[12..end], &mut area[..size]);
+    got == number_at(case, 4) && begins(&area, &case[end..])
 }
 
 // What read returns for a text, and the whole area.
@@ -341,8 +259,8 @@ pub fn read_case(case: &[u8]) -> bool {
         return false;
     }
     let mut area = lent_area();
-    let got = read_in(&case[12..end], &mut area, size);
-    (got == number_at(case, 4)) & begins(&area, &case[end..])
+    let got = ruqzhemil::ruqzhemil_read(&case[12..end], &mut area[..size]);
+    got == number_at(case, 4) && begins(&area, &case[end..])
 }
 
 // What bound returns for a plan.
@@ -353,28 +271,12 @@ pub fn bound_case(case: &[u8]) -> bool {
     ruqzhemil::ruqzhemil_bound(&case[8..]) == number_at(case, 0)
 }
 
-// The first interleaving, or the one that follows the schedule, in the whole area.
+// The first interleaving, or the one that follows the schedule.
 fn interleaving(going: bool, plan: &[u8], n: u64, schedule: &[u8], area: &mut [u8]) -> u64 {
     if going {
         ruqzhemil::ruqzhemil_next_interleaving(plan, n, schedule, area)
     } else {
         ruqzhemil::ruqzhemil_first_interleaving(plan, n, area)
-    }
-}
-
-// The same in an area of that size, or in the whole area.
-fn interleaving_in(
-    going: bool,
-    plan: &[u8],
-    n: u64,
-    schedule: &[u8],
-    area: &mut [u8],
-    size: usize,
-) -> u64 {
-    if size < area.len() {
-        interleaving(going, plan, n, schedule, &mut area[..size])
-    } else {
-        interleaving(going, plan, n, schedule, area)
     }
 }
 
@@ -394,24 +296,9 @@ pub fn interleaving_case(case: &[u8]) -> bool {
     }
     let mut area = [FILL; 512];
     let n = number_at(case, 7);
-    let got = interleaving_in(
-        case[6] != 0,
-        &case[23..end],
-        n,
-        &case[end..last],
-        &mut area,
-        size,
-    );
-    (got == number_at(case, 15)) & begins(&area, &case[last..])
-}
-
-// A witness in an area of that size, or in the whole area.
-fn witness_in(plan: &[u8], schedule: &[u8], area: &mut [u8], size: usize) -> u64 {
-    if size < area.len() {
-        ruqzhemil::ruqzhemil_witness(plan, schedule, &mut area[..size])
-    } else {
-        ruqzhemil::ruqzhemil_witness(plan, schedule, area)
-    }
+    let lent = &mut area[..size];
+    let got = interleaving(case[6] != 0, &case[23..end], n, &case[end..last], lent);
+    got == number_at(case, 15) && begins(&area, &case[last..])
 }
 
 // What witness returns for a plan and a schedule, and the whole area.
@@ -429,6 +316,6 @@ pub fn witness_case(case: &[u8]) -> bool {
         return false;
     }
     let mut area = lent_area();
-    let got = witness_in(&case[14..end], &case[end..last], &mut area, size);
-    (got == number_at(case, 6)) & begins(&area, &case[last..])
+    let got = ruqzhemil::ruqzhemil_witness(&case[14..end], &case[end..last], &mut area[..size]);
+    got == number_at(case, 6) && begins(&area, &case[last..])
 }

@@ -6,109 +6,59 @@ use std::rt::Files;
 use std::{fs, io};
 
 #[derive(Clone, Copy)]
-pub enum Group {
-    Version,
-    Check,
-    Play,
-    Run,
-    Both,
-    Log,
-    File,
-    Charge,
-    Preview,
-    Plan,
-    Text,
-    Read,
-    Bound,
-    Witness,
-    Interleaving,
-}
-
-// What the next case of a file is.
-#[derive(Clone, Copy)]
-enum Next {
-    Right,
-    Wrong,
-    End,
-}
-
-#[derive(Clone, Copy)]
 pub struct Tally {
     pub cases: u64,
     pub differ: u64,
 }
 
-fn right(group: Group, case: &[u8]) -> bool {
-    match group {
-        Group::Version => test_stored_cases::version_case(case),
-        Group::Check => test_stored_cases::check_case(case),
-        Group::Play => test_stored_cases::play_case(case),
-        Group::Run => test_stored_cases::run_case(case),
-        Group::Both => test_stored_cases::both_case(case),
-        Group::Log => test_stored_cases::log_case(case),
-        Group::File => test_stored_cases::file_case(case),
-        Group::Charge => test_stored_cases::charge_case(case),
-        Group::Preview => test_stored_cases::preview_case(case),
-        Group::Plan => test_stored_cases::plan_case(case),
-        Group::Text => test_stored_cases::text_case(case),
-        Group::Read => test_stored_cases::read_case(case),
-        Group::Bound => test_stored_cases::bound_case(case),
-        Group::Witness => test_stored_cases::witness_case(case),
-        Group::Interleaving => test_stored_cases::interleaving_case(case),
-    }
-}
-
-// Reads a case of the given size. A file that ends within it is damaged.
-fn read_case<R: Read>(file: &mut R, group: Group, size: usize) -> io::Result<Next>
-    requires { size ≤ 65535 }
+// Whether the case of the given size with which the file goes on is right. A file that ends within it is damaged.
+fn read_case<R: Read, F: Fn(&[u8]) -> bool>(file: &mut R, right: F, size: usize) -> io::Result<bool>
+    requires bound { size ≤ 65535 }
+    requires callable { F.IsAlwaysCallable right }
 {
     let mut buffer = [0u8; 65536];
     let got = program_files::read_full(file, &mut buffer[..size])?;
-    if got < size {
-        return Ok(Next::Wrong);
-    }
-    if right(group, &buffer[..size]) {
-        Ok(Next::Right)
-    } else {
-        Ok(Next::Wrong)
-    }
+    Ok(got == size && right(&buffer[..size]))
 }
 
-fn next_case<R: Read>(file: &mut R, group: Group) -> io::Result<Next> {
+// Whether the next case of the file is right; none where the file is at its end.
+fn next_case<R: Read, F: Fn(&[u8]) -> bool>(file: &mut R, right: F) -> io::Result<Option<bool>>
+    requires { F.IsAlwaysCallable right }
+{
     let mut head = [0u8; 2];
-    let got = program_files::read_full(file, &mut head)?;
-    if got == 0 {
-        return Ok(Next::End);
+    match program_files::read_full(file, &mut head)? {
+        0 => Ok(None),
+        1 => Ok(Some(false)),
+        _ => Ok(Some(read_case(file, right, byte_numbers::half(&head, 0))?)),
     }
-    if got == 1 {
-        return Ok(Next::Wrong);
-    }
-    read_case(file, group, byte_numbers::half(&head, 0))
 }
 
 // The tally of a file that is open, of no more than a million cases.
-fn tally_in<R: Read>(file: &mut R, group: Group) -> io::Result<Tally> {
+fn tally_in<R: Read, F: Fn(&[u8]) -> bool>(file: &mut R, right: F) -> io::Result<Tally>
+    requires { F.IsAlwaysCallable right }
+{
     let mut cases: u64 = 0;
     let mut differ: u64 = 0;
     for _ in 0..1000000u64 {
-        match next_case(file, group)? {
-            Next::Right => {
+        match next_case(file, &right)? {
+            None => break,
+            Some(same) => {
                 cases += 1;
+                if !same {
+                    differ += 1;
+                }
             }
-            Next::Wrong => {
-                cases += 1;
-                differ += 1;
-            }
-            Next::End => break,
         }
     }
     Ok(Tally { cases, differ })
 }
 
 // The same of a file of the current folder. A file that cannot be opened counts as a case that differs.
-pub fn tally_of<R: Files>(rt: &R, path: &str, group: Group) -> io::Result<Tally> {
+pub fn tally_of<R: Files, F: Fn(&[u8]) -> bool>(rt: &R, path: &str, right: F) -> io::Result<Tally>
+    requires { F.IsAlwaysCallable right }
+{
     match fs::open(rt, path) {
-        Ok(mut file) => tally_in(&mut file, group),
+        Ok(mut file) => tally_in(&mut file, right),
         Err(_) => Ok(Tally {
             cases: 1,
             differ: 1,

@@ -16,7 +16,7 @@ fn writes(kind: usize) -> bool
     requires { kind < 16 }
     ensures { result ≡ is_write (kind_of kind) }
 {
-    (kind == kind::WRITE) | (kind == kind::LACKS_WRITE)
+    matches!(kind, kind::WRITE | kind::LACKS_WRITE)
 }
 
 // A plain access, also one that lacks its key.
@@ -24,10 +24,10 @@ fn plain(kind: usize) -> bool
     requires { kind < 16 }
     ensures { result ≡ is_plain (kind_of kind) }
 {
-    (kind == kind::READ)
-        | (kind == kind::WRITE)
-        | (kind == kind::LACKS_READ)
-        | (kind == kind::LACKS_WRITE)
+    matches!(
+        kind,
+        kind::READ | kind::WRITE | kind::LACKS_READ | kind::LACKS_WRITE
+    )
 }
 
 // Whether an earlier record conflicts with a later one, which is a plain access.
@@ -36,11 +36,10 @@ fn conflict(earlier: Columns, later: Columns) -> bool
     requires later_narrow { Narrow later }
     ensures { result ≡ conflict_test earlier later }
 {
-    let one_writes = writes(earlier.kind) | writes(later.kind);
     plain(earlier.kind)
-        & one_writes
-        & (earlier.object == later.object)
-        & (earlier.field == later.field)
+        && (writes(earlier.kind) || writes(later.kind))
+        && earlier.object == later.object
+        && earlier.field == later.field
 }
 
 // The last earlier access that conflicts with the one at `later` and from which no chain leads to it, by the chains of a version.
@@ -57,7 +56,7 @@ pub fn last_conflict(version: usize, log: &[u8], later: usize) -> usize
         let columns = log_packing::columns_at(log, index);
         let thread = columns.thread;
         let heard = index < row[thread] as usize;
-        if conflict(columns, access) & !heard {
+        if conflict(columns, access) && !heard {
             return index;
         }
     }

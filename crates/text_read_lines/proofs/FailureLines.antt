@@ -1,14 +1,14 @@
 -- The line of a text that is no plan: its parts, and how long they are. Assumes nothing.
 use Prim.Native.Nat.{ℕ, ◌+◌, ◌≤◌, ◌<◌}
 use native.Mathlib.Omega.{arith}
-use mathlib.Core.Path.{◌≡◌, refl, sym, ap, ◌∙◌}
+use mathlib.Core.Path.{◌≡◌, ap}
 use mathlib.Core.Bool.{Bool, true, false, cond}
 use mathlib.Core.List.{List, [], ◌∷◌, ◌++◌, append_assoc}
 use lib.Dec.{eqb, ltb}
 use lib.ListN.{length, length-append, get_or}
 use Rattle.text.specs.Text.{ascii, decimal}
 use Rattle.text.proofs.Decimals.{few_digits}
-use Rattle.text_word_table.specs.Inner.Table.{joined, starts_from, Table, word_at, Room}
+use Rattle.text_word_table.specs.Inner.Table.{joined, starts_from, word_at, Room}
 use Rattle.text_word_table.proofs.Words.{word_is, room_for, longest, not_longer}
 use Rattle.plan_parsing.specs.Goals as goal
 use Rattle.plan_parsing.specs.Goals.{Sort, either, expression, condition, Goal}

@@ -13,10 +13,8 @@ ghost use Rattle.text_read_lines.specs.Reasons.{token_row, sort_row, goal_row, r
 fn token_row(token: usize) -> usize
     ensures { result ≡ token_row token }
 {
-    if token < 32 {
-        return 9;
-    }
     match token {
+        0..32 => 9,
         42 => 10,
         43 => 11,
         44 => 12,
@@ -44,66 +42,42 @@ fn sort_row(sort: usize) -> usize
 fn goal_row(goal: usize) -> usize
     ensures { result ≡ goal_row (goal_of goal) }
 {
-    if goal < 128 {
-        return token_row(goal);
+    match goal {
+        0..128 => token_row(goal),
+        128..160 => 0,
+        160..176 => sort_row((goal - 160) % 3),
+        176..192 => sort_row((goal - 176) % 3),
+        192 => 4,
+        193 => 6,
+        194..256 => 8,
+        256..640 => 5,
+        _ => 7,
     }
-    if goal < 160 {
-        return 0;
-    }
-    if goal < 176 {
-        return sort_row((goal - 160) % 3);
-    }
-    if goal < 192 {
-        return sort_row((goal - 176) % 3);
-    }
-    if goal == 192 {
-        return 4;
-    }
-    if goal == 193 {
-        return 6;
-    }
-    if goal < 256 {
-        return 8;
-    }
-    if goal < 640 {
-        return 5;
-    }
-    7
 }
 
 // The row of why reading stops.
 fn reason_row(reason: usize) -> usize
     ensures { result ≡ reason_row (reason_of reason) }
 {
-    if reason == 1000 {
-        return 19;
+    match reason {
+        1000 => 19,
+        1001 => 20,
+        1002 => 17,
+        _ => goal_row(reason),
     }
-    if reason == 1001 {
-        return 20;
-    }
-    if reason == 1002 {
-        return 17;
-    }
-    goal_row(reason)
 }
 
 // The row of why a text is no plan.
 fn failure_row(kind: usize, reason: usize) -> usize
     ensures { result ≡ failure_row (failure_of kind reason) }
 {
-    if kind == 4 {
-        return 24;
+    match kind {
+        0 => reason_row(reason),
+        1 => 21,
+        2 => 22,
+        4 => 24,
+        _ => 23,
     }
-    if kind == 0 {
-        return reason_row(reason);
-    }
-    if kind == 1 {
-        return 21;
-    }
-    if kind == 2 {
-        return 22;
-    }
-    23
 }
 
 // Where reading stops.

@@ -4,7 +4,7 @@ use Rattle.std.proofs.Math.Option.{some, none}
 use Rattle.format.specs.Version.{Version}
 use Rattle.log_records.specs.Packed.{record_count, log_of}
 use Rattle.log_conflicts.specs.Judge.{Names}
-use Rattle.log_effects.specs.declared.NoneLeft.{NoneLeft}
+use Rattle.log_places.specs.declared.places.NoneLeft.{NoneLeft}
 
 -- what a pass finds: the index of the first unordered access, or none; or that the log is at more places than the table has rows for
 abbrev pub Found : Type 0

@@ -2,10 +2,10 @@
 use Rattle.std.specs.Prelude.{ℕ, ◌+◌, ◌/◌, ◌<◌, ◌≤◌, ◌≡◌, Bool, true, false, List, ◌⊎◌, length, get_or, Result, Ok, Err}
 use Rattle.log_records.specs.Packed.{kind_at, record_at}
 use Rattle.log_clocks.specs.Inner.Rows.{Row}
+use Rattle.log_places.specs.declared.places.NoneLeft.{NoneLeft}
 use Rattle.log_places.specs.Inner.Places.{thread_at, place_at, numbers_of, Numbered}
 use Rattle.log_rows.specs.Inner.Rows.{place_row, is_access, passes}
 use Rattle.log_row_stores.specs.Inner.Table.{Sound, Hears, Told, Accessed}
-use Rattle.log_effects.specs.declared.NoneLeft.{NoneLeft}
 
 -- the field of record i of a log in bytes
 abbrev pub field_at : List ℕ → ℕ → ℕ
@@ -50,10 +50,10 @@ pub data OtherStep (k t f time : ℕ) (rows : List Row) : List Row → Type 0 wh
 
 -- what record i does, by the kinds of volatile accesses that order something, and whether it is an unordered access, or no number is left for its place
 pub data Stepped (b : List ℕ) (i read write most : ℕ) (N : List ℕ) (given : ℕ) (rows : List Row) : List ℕ → ℕ → List Row → Result Bool NoneLeft → Type 0 where
-  placed : {N' : List ℕ} {given' n : ℕ} {after : List Row} {d : Bool} → Numbered N given (place_at b i) most N' given' n → (n ≡ 0 → ⊥)
+  placed : {N' : List ℕ} {given' n : ℕ} {after : List Row} {d : Bool} → Numbered N given (place_at b i) most N' given' (Ok n)
       → PlacedStep read write (kind_at b i) (thread_at b i) (place_row n) (i + 1) rows after d
       → Stepped b i read write most N given rows N' given' after (Ok d)
   unplaced : {after : List Row} → is_access (kind_at b i) ≡ false → passes 6 read (kind_at b i) ≡ false → passes 7 write (kind_at b i) ≡ false
       → OtherStep (kind_at b i) (thread_at b i) (field_at b i) (i + 1) rows after → Stepped b i read write most N given rows N given after (Ok false)
-  none_left : {N' : List ℕ} {given' n : ℕ} {e : NoneLeft} → Numbered N given (place_at b i) most N' given' n → n ≡ 0
+  none_left : {N' : List ℕ} {given' : ℕ} {e : NoneLeft} → Numbered N given (place_at b i) most N' given' (Err e)
       → Stepped b i read write most N given rows N' given' rows (Err e)

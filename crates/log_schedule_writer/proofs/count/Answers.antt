@@ -1,32 +1,17 @@
-use Prim.Native.Nat.{◌-◌}
+-- `log_schedule_writer::count` meets its contract. Assumes nothing.
+use borrow.Author.Rules.{rules}
 use native.Mathlib.Omega.{arith}
-use mathlib.Core.Path.{◌≡◌, ap}
-use mathlib.Core.Logic.{⊎_elim}
-use Rattle.log_schedule_writer.specs.Inner.Kept.{flagged, count_kept}
-use Rattle.log_schedule_writer.proofs.Counts.{counted_one, counted_none, none_left}
+use mathlib.Core.Path.{◌≡◌, ◌∙◌}
+use lib.ListN.{take}
+use Rattle.std.specs.Prelude.{count_by}
+use Rattle.std.proofs.lemmas.List.{length-take-le}
+use Rattle.std.proofs.lemmas.List.Sums.{count_by-le-length}
+use Rattle.log_schedule_writer.proofs.Counts.{set_counted}
 use Rattle.log_schedule_writer.proofs.count.Goals as goal
-
-pub loop-index-init : goal.loop-index-init
-loop-index-init c = let a =
-    c.args in (
-      omega arith,
-      let e : a.moves - 0 ≡ a.moves = omega arith in let k = ap (count_kept (flagged a.kept.now) 0) e in
-          omega (arith, k),
-    )
-
-pub loop-index-preserved : goal.loop-index-preserved
-loop-index-preserved c =
-    let l = c.loop-index in
-    let a = c.args in
-    let h = c.loop-index-test.true in
-    ⊎_elim (λ w. let e = counted_one (flagged a.kept.now) l.index a.moves h w.if-kept-index.true in
-    (omega (arith, w.total-is), omega (arith, e, w.total-is, l.invariant.1)))
-    (λ w. let e = counted_none (flagged a.kept.now) l.index a.moves h w.if-kept-index.false in
-    (omega (arith, w.total-is), omega (arith, e, w.total-is, l.invariant.1))) c.if-kept-index.branch-raw
 
 pub returns : goal.returns
 returns c =
-    let l = c.loop-index in
     let a = c.args in
-    let e = none_left (flagged a.kept.now) l.index a.moves (omega arith) in
-    (omega (arith, e, l.invariant.1), omega arith)
+    let first = take a.moves a.kept.now in
+    let set : c.count.result ≡ count_by (λ x. x) first = search rules in
+    (set ∙ set_counted a.kept.now a.moves c.requires, omega (arith, set, count_by-le-length (λ x. x) first, length-take-le a.moves a.kept.now c.requires))

@@ -24,9 +24,6 @@ loop-token-init c =
       sym (ap (λ (p : Pen). laid_from p c.args.tokens.now) e),
     )
 
-pub returns-then-room-at-lt51 : goal.returns-then-room-at-lt51
-returns-then-room-at-lt51 c = record { within = omega arith; laid = λ h. absurd (omega arith) }
-
 pub width-width-requires : goal.width-width-requires
 width-width-requires c = c.requires.rows_value.2 c.loop-token.token-index
 
@@ -89,6 +86,6 @@ returns c =
     let p = c.put_byte.ensures in
     record {
       within = omega (arith, p.next, p.kept, l.invariant.1);
-      laid = λ h. p.text ∙ ap (λ (xs : List ℕ). take l.at l.room ++ xs) (sym (laid_none _ l.token-index (pen_of l.pen) c.loop-token-test.false))
+      laid = p.text ∙ ap (λ (xs : List ℕ). take l.at l.room ++ xs) (sym (laid_none _ l.token-index (pen_of l.pen) c.loop-token-test.false))
           ∙ sym l.invariant.6;
     }

@@ -27,7 +27,7 @@ pub record WroteWithin (before : List ℕ) (at : ℕ) (bytes after : List ℕ) (
   pub text : take r after ≡ take at before ++ bytes
   pub rest : drop end after ≡ drop end before
 
--- a room begins with r bytes, the text of these tokens, if r is not 0
+-- a room begins with r bytes, the text of these tokens
 pub record LaidWithin (ts room : List ℕ) (r : ℕ) : Type 0 where
   pub within : r ≤ length room
-  pub laid : 0 < r → take r room ≡ laid_out ts
+  pub laid : take r room ≡ laid_out ts

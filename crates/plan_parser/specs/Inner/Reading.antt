@@ -1,5 +1,5 @@
 -- Where reading stands, and what comes of it, for inner contracts: no reader of an entry's promise needs them. Assumes nothing.
-use Rattle.std.specs.Prelude.{ℕ, ◌+◌, ◌-◌, ◌*◌, ◌≤◌, ◌<◌, ◌≡◌, cond, List, Result, Ok, Err, ltb, length, get_or, drop}
+use Rattle.std.specs.Prelude.{ℕ, ◌+◌, ◌-◌, ◌*◌, ◌≤◌, ◌<◌, ◌≡◌, cond, List, Option, Some, None, Result, Ok, Err, ltb, length, get_or, drop}
 use Rattle.plan_packed.specs.Inner.Steps.{Ordered, tree_in}
 use Rattle.plan_parsing.specs.Goals.{Value, number_in, expression_in, value_at}
 use Rattle.plan_parsing.specs.Parser as definition
@@ -12,7 +12,6 @@ use Rattle.plan_parser.specs.Inner.Making.{Makes}
 use Rattle.plan_parser.specs.declared.turns.Standing.{Standing}
 use Rattle.plan_parser.specs.declared.turns.Halt.{Halt}
 use Rattle.plan_parser.specs.declared.Parsed.{Parsed}
-use Rattle.plan_parser.specs.declared.Parsed.TheVariants.{Read, Stopped, Full}
 
 -- ---- the state
 
@@ -148,20 +147,20 @@ pub record Finished (tokens words : List ℕ) (left : ℕ) (vs : List Value) (n 
   pub fewer : left' ≤ left
 
 -- what is read is what the definition says; arrays are too short only where they are not for every text
-abbrev pub Reads : List ℕ → List ℕ → ℕ → definition.Parsed → Parsed → Type 0
-Reads tokens words left (definition.parsed vs n rest) (Read root parameters left' at) = Finished tokens words left vs n rest root parameters left' at
-Reads tokens words left (definition.parsed vs n rest) (Stopped reason at) = ⊥
-Reads tokens words left (definition.stopped r rest) (Read root parameters left' at) = ⊥
-Reads tokens words left (definition.stopped r rest) (Stopped reason at) = (r ≡ reason_of reason) × (drop at tokens ≡ rest)
-Reads tokens words left (definition.parsed vs n rest) Full = length words < 1024
-Reads tokens words left (definition.stopped r rest) Full = length words < 1024
+abbrev pub Reads : List ℕ → List ℕ → ℕ → definition.Parsed → Option (Result Parsed Halt) → Type 0
+Reads tokens words left (definition.parsed vs n rest) (Some (Ok p)) = Finished tokens words left vs n rest p.root p.parameters p.left p.at
+Reads tokens words left (definition.parsed vs n rest) (Some (Err h)) = ⊥
+Reads tokens words left (definition.stopped r rest) (Some (Ok p)) = ⊥
+Reads tokens words left (definition.stopped r rest) (Some (Err h)) = (r ≡ reason_of h.reason) × (drop h.at tokens ≡ rest)
+Reads tokens words left (definition.parsed vs n rest) None = length words < 1024
+Reads tokens words left (definition.stopped r rest) None = length words < 1024
 
 -- goals or values are more than there is room for
-unfoldable pub crowded_by : List ℕ → ℕ → Parsed
-crowded_by words at = cond (ltb (length words) 1024) Full (Stopped 1001 at)
+unfoldable pub crowded_by : List ℕ → ℕ → Option (Result Parsed Halt)
+crowded_by words at = cond (ltb (length words) 1024) None (Some (Err (record { reason = 1001; at = at })))
 
 -- and the terms from left on stay
-pub record Ran (tokens words words' : List ℕ) (left : ℕ) (R : definition.Parsed) (r : Parsed) : Type 0 where
+pub record Ran (tokens words words' : List ℕ) (left : ℕ) (R : definition.Parsed) (r : Option (Result Parsed Halt)) : Type 0 where
   pub reads : Reads tokens words' left R r
   pub kept : Kept left words words'
 

@@ -21,10 +21,7 @@ returns-then-ahead-eq-END c =
           counts_are = refl;
         },
         sym c.ahead.ensures.0 ∙ c.if-ahead-eq-END.true,
-        refl,
-        refl,
         search rules,
-        refl,
       );
     }
 

@@ -1,6 +1,7 @@
 -- `step` meets its contract. Assumes nothing.
 use native.Mathlib.Omega.{arith}
-use mathlib.Core.Path.{refl}
+use mathlib.Core.Path.{refl, ap, ◌∙◌}
+use Rattle.std.specs.Prelude.{Some}
 use Rattle.plan_reader.proofs.Steps.{stop_faulty, read_finished, read_full, kept_goes}
 use Rattle.plan_reader.proofs.step.Goals as goal
 
@@ -12,24 +13,24 @@ procedure-requires c =
 pub keep-requires : goal.keep-requires
 keep-requires c =
     let r = c.procedure.ensures in
-    let f = read_finished r c.in-Read.is in (
+    let f = read_finished r (c.in-Some-Ok.is ∙ ap Some c.in-Some-Ok.field-0-is) in (
       c.requires.tokens_len_bound.2,
       r.kept.ordered,
       f.finished.root_below,
       f.finished.parameters_few,
     )
 
-pub returns-in-Stopped : goal.returns-in-Stopped
-returns-in-Stopped c =
+pub returns-in-Some-Err : goal.returns-in-Some-Err
+returns-in-Some-Err c =
     record {
-      so = λ few. stop_faulty c.requires.going c.requires.tokens_len_bound.2 c.requires.tokens_len_bound.1 c.procedure.ensures c.in-Stopped.is;
+      so = λ few. stop_faulty c.requires.going c.requires.tokens_len_bound.2 c.requires.tokens_len_bound.1 c.procedure.ensures (c.in-Some-Err.is ∙ ap Some c.in-Some-Err.field-0-is);
     }
 
-pub returns-in-Read : goal.returns-in-Read
-returns-in-Read c =
+pub returns-in-Some-Ok : goal.returns-in-Some-Ok
+returns-in-Some-Ok c =
     let r = c.procedure.ensures in
-    kept_goes c.requires.going c.requires.tokens_len_bound.2 c.requires.tokens_len_bound.1 r.kept (read_finished r c.in-Read.is) _ _ refl refl refl refl
+    kept_goes c.requires.going c.requires.tokens_len_bound.2 c.requires.tokens_len_bound.1 r.kept (read_finished r (c.in-Some-Ok.is ∙ ap Some c.in-Some-Ok.field-0-is)) _ refl refl
     c.keep.ensures
 
-pub returns-in-Full : goal.returns-in-Full
-returns-in-Full c = record { so = λ few. read_full c.procedure.ensures c.in-Full.is }
+pub returns-in-None : goal.returns-in-None
+returns-in-None c = record { so = λ few. read_full c.procedure.ensures c.in-None.is }

@@ -1,5 +1,6 @@
 -- What is left to read of a plan's tokens. No reader of the entry's promise needs it. Assumes nothing.
 use Rattle.std.specs.Prelude.{ℕ, suc, ◌+◌, ◌-◌, ◌^◌, ◌≤◌, ◌<◌, ◌≡◌, Bool, true, false, cond, ◌&&◌, List, [], ◌∷◌, eqb, ltb, length, get_or, drop, set}
+use Rattle.std.specs.Prelude.{Option, Some, None, Result, Ok, Err}
 use Rattle.plan_notation.specs.Tokens.{procedure_word, text_end}
 use Rattle.plan_parsing.specs.Parser.{ahead}
 use Rattle.plan_parsing.specs.Plan.{Reading, plan, fault, Fault, counts_of, Before, procedures_by, mask_from, behind_fields, with_volatiles, read_plan}
@@ -10,8 +11,9 @@ use Rattle.plan_writer.specs.Inner.Held.{held_from, held_program}
 use Rattle.plan_parser_goals.specs.Inner.Encoded.{reason_of}
 use Rattle.plan_parser.specs.Inner.Reading.{terms_left}
 use Rattle.plan_reader.specs.declared.Heading.{Heading}
-use Rattle.plan_reader.specs.declared.Outcome.{Outcome}
-use Rattle.plan_reader.specs.declared.Outcome.TheVariants.{Plan, Refused, Full}
+use Rattle.plan_parser.specs.declared.Parsed.{Parsed}
+use Rattle.plan_reader.specs.declared.HeldPlan.{HeldPlan}
+use Rattle.plan_reader.specs.declared.PlanFault.{PlanFault}
 use Rattle.plan_reader.specs.declared.Rest.{Rest}
 use Rattle.std.specs.declared.ops.ControlFlow.{ControlFlow}
 use Rattle.std.specs.declared.ops.ControlFlow.TheVariants.{Continue, Break}
@@ -69,11 +71,14 @@ pub record PlanHeld (ts : List ℕ) (v m n left : ℕ) (words roots counts : Lis
   pub sized : size_of_all (held_from words roots counts 0 n) + left ≡ length words
   pub few : n ≤ 32
 
+abbrev pub Outcome : Type 0
+Outcome = Option (Result HeldPlan PlanFault)
+
 -- what comes of a plan's tokens; arrays are too short only where they are not for every text
 abbrev pub ReadBy : List ℕ → List ℕ → List ℕ → List ℕ → Outcome → Type 0
-ReadBy ts words roots counts (Plan v m n left) = PlanHeld ts v m n left words roots counts × (v ≤ 1)
-ReadBy ts words roots counts (Refused kind reason at) = Faulty ts kind reason at
-ReadBy ts words roots counts Full = length words < 1024
+ReadBy ts words roots counts (Some (Ok h)) = PlanHeld ts h.version h.mask h.procedures h.left words roots counts × (h.version ≤ 1)
+ReadBy ts words roots counts (Some (Err f)) = Faulty ts f.kind f.reason f.at
+ReadBy ts words roots counts None = length words < 1024
 
 pub record ReadAs (ts words roots counts : List ℕ) (r : Outcome) : Type 0 where
   pub so : ReadBy ts words roots counts r
@@ -106,18 +111,19 @@ pub record Kept (words roots counts roots' counts' : List ℕ) (p root k : ℕ) 
   pub counts_are : counts' ≡ set counts p k
 
 -- what comes of a plan, if it is known behind a procedure that has been read
-abbrev pub EndsAs : List ℕ → Heading → ℕ → ℕ → List ℕ → List ℕ → List ℕ → List ℕ → List ℕ → ℕ → ℕ → Rest → Outcome → Type 0
-EndsAs ts h p at words roots counts roots' counts' root k rest (Refused kind reason stop) =
-    (closed (λ x. ltb x k) (tree_in words root) ≡ false) × (kind ≡ 2) × (stop ≡ at)
-EndsAs ts h p at words roots counts roots' counts' root k rest (Plan v m n left) =
-    Kept words roots counts roots' counts' p root k × (ahead ts rest.at ≡ text_end) × (v ≡ h.version) × (m ≡ h.mask) × (n ≡ suc p) × (left ≡ rest.left)
-EndsAs ts h p at words roots counts roots' counts' root k rest Full = ⊥
+abbrev pub EndsAs : List ℕ → Heading → ℕ → ℕ → List ℕ → List ℕ → List ℕ → List ℕ → List ℕ → Parsed → Outcome → Type 0
+EndsAs ts h p at words roots counts roots' counts' x (Some (Err f)) =
+    (closed (λ y. ltb y x.parameters) (tree_in words x.root) ≡ false) × (f.kind ≡ 2) × (f.at ≡ at)
+EndsAs ts h p at words roots counts roots' counts' x (Some (Ok g)) =
+    Kept words roots counts roots' counts' p x.root x.parameters × (ahead ts x.at ≡ text_end)
+    × (g ≡ record { version = h.version; mask = h.mask; procedures = suc p; left = x.left })
+EndsAs ts h p at words roots counts roots' counts' x None = ⊥
 
-abbrev pub KeptAs : List ℕ → Heading → ℕ → ℕ → List ℕ → List ℕ → List ℕ → List ℕ → List ℕ → ℕ → ℕ → Rest → ControlFlow Outcome Rest → Type 0
-KeptAs ts h p at words roots counts roots' counts' root k rest (Break r) = EndsAs ts h p at words roots counts roots' counts' root k rest r
-KeptAs ts h p at words roots counts roots' counts' root k rest (Continue rest') =
-    Kept words roots counts roots' counts' p root k × (ahead ts rest.at ≡ text_end → ⊥) × (rest' ≡ rest)
+abbrev pub KeptAs : List ℕ → Heading → ℕ → ℕ → List ℕ → List ℕ → List ℕ → List ℕ → List ℕ → Parsed → ControlFlow Outcome Rest → Type 0
+KeptAs ts h p at words roots counts roots' counts' x (Break r) = EndsAs ts h p at words roots counts roots' counts' x r
+KeptAs ts h p at words roots counts roots' counts' x (Continue rest) =
+    Kept words roots counts roots' counts' p x.root x.parameters × (ahead ts x.at ≡ text_end → ⊥) × (rest ≡ record { at = x.at; left = x.left })
 
-pub record Keeps (ts : List ℕ) (h : Heading) (p at : ℕ) (words roots counts roots' counts' : List ℕ) (root k : ℕ) (rest : Rest)
+pub record Keeps (ts : List ℕ) (h : Heading) (p at : ℕ) (words roots counts roots' counts' : List ℕ) (x : Parsed)
     (r : ControlFlow Outcome Rest) : Type 0 where
-  pub so : KeptAs ts h p at words roots counts roots' counts' root k rest r
+  pub so : KeptAs ts h p at words roots counts roots' counts' x r

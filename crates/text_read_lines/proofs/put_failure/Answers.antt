@@ -1,13 +1,11 @@
 -- `put_failure` meets its contract. Assumes nothing.
-use Prim.Native.Nat.{ℕ, ◌<◌}
 use native.Mathlib.Omega.{arith}
-use mathlib.Core.Path.{◌≡◌, sym, ap}
+use mathlib.Core.Path.{ap}
 use lib.ListN.{length}
 use Rattle.text.proofs.Added.{added_more, added_as}
 use Rattle.read.specs.Answer.{failure_of}
 use Rattle.text_read_lines.specs.Reasons.{reason_words, failure_line}
 use Rattle.text_read_lines.proofs.FailureLines.{failure_few, failure_length}
-use borrow.Author.Rules.{rules}
 use Rattle.text_read_lines.proofs.put_failure.Goals as goal
 
 pub put_place-at-requires : goal.put_place-at-requires

@@ -3,7 +3,6 @@ use native.Mathlib.Omega.{arith}
 use Rattle.text.specs.Text.{ascii}
 use Rattle.text.proofs.Added.{added_more, added_as}
 use Rattle.text_read_lines.proofs.FailureLines.{place_parts, place_length}
-use borrow.Author.Rules.{rules}
 use Rattle.text_read_lines.proofs.put_place.Goals as goal
 
 pub put_word-at-requires : goal.put_word-at-requires

@@ -1,11 +1,9 @@
 -- `put_reason` meets its contract: the reason is a word of the code's table. Assumes nothing.
 use native.Mathlib.Omega.{arith}
 use mathlib.Core.Path.{ap}
-use mathlib.Core.List.{[], ◌∷◌}
 use lib.ListN.{length, length-append}
 use Rattle.text.proofs.Added.{added_more, added_as}
 use Rattle.text_read_lines.proofs.FailureLines.{reason_is, reason_room}
-use borrow.Author.Rules.{rules}
 use Rattle.text_read_lines.proofs.put_reason.Goals as goal
 
 pub put_row-at-requires : goal.put_row-at-requires

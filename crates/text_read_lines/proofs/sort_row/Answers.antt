@@ -1,5 +1,4 @@
 -- `sort_row`: the code is its definition. Assumes nothing.
-use native.Mathlib.Omega.{arith}
 use Prim.Native.Nat.{ℕ, zero, suc}
 use mathlib.Core.Path.{◌≡◌, refl, sym, ap}
 use Rattle.plan_parser_goals.specs.Inner.Encoded.{sort_of}

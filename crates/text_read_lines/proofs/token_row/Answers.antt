@@ -1,12 +1,14 @@
 -- `token_row`: the code is its definition. Assumes nothing.
+use native.Mathlib.Omega.{arith}
 use mathlib.Core.Path.{sym, ap}
 use borrow.Author.Tests.{lt-ltb, le-ltb, ne_eqb}
 use Rattle.text_read_lines.specs.Reasons.{token_row}
 use Rattle.text_read_lines.proofs.token_row.Goals as goal
 
-pub returns-then-token-lt32 : goal.returns-then-token-lt32
+pub returns-in-0-to-31 : goal.returns-in-0-to-31
 unfolding token_row
-returns-then-token-lt32 c = simp (lt-ltb _ _ c.if-token-lt32.true)
+returns-in-0-to-31 c =
+    simp (lt-ltb c.args.token 32 (omega arith))
 
 pub returns-in-42 : goal.returns-in-42
 unfolding token_row
@@ -43,15 +45,14 @@ returns-in-66 c = sym (ap token_row c.in-66.is)
 pub returns-in_default : goal.returns-in_default
 unfolding token_row
 returns-in_default c =
-    let rest = c.in_default.in_default-own.rest in
     simp (
-      le-ltb _ _ c.if-token-lt32.false,
-      ne_eqb _ 42 rest.0.0.0.0.0.0.0.1,
-      ne_eqb _ 43 rest.0.0.0.0.0.0.1,
-      ne_eqb _ 44 rest.0.0.0.0.0.1,
-      ne_eqb _ 45 rest.0.0.0.0.1,
-      ne_eqb _ 46 rest.0.0.0.1,
-      ne_eqb _ 62 rest.0.0.1,
-      ne_eqb _ 63 rest.0.1,
-      ne_eqb _ 66 rest.1,
+      le-ltb c.args.token 32 (omega arith),
+      ne_eqb c.args.token 42 (λ e. omega arith),
+      ne_eqb c.args.token 43 (λ e. omega arith),
+      ne_eqb c.args.token 44 (λ e. omega arith),
+      ne_eqb c.args.token 45 (λ e. omega arith),
+      ne_eqb c.args.token 46 (λ e. omega arith),
+      ne_eqb c.args.token 62 (λ e. omega arith),
+      ne_eqb c.args.token 63 (λ e. omega arith),
+      ne_eqb c.args.token 66 (λ e. omega arith),
     )

@@ -2,7 +2,6 @@
 use Rattle.log_places.specs.Inner.Places.{next, full}
 use Rattle.log_places.proofs.OwnNumbers.{own_number, known_as, kept_number}
 use native.Mathlib.Omega.{arith}
-use borrow.Author.Rules.{rules}
 use Rattle.log_places.proofs.places.number.Goals as goal
 
 pub returns-then-most-gt255 : goal.returns-then-most-gt255

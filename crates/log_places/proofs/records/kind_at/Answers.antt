@@ -1,7 +1,6 @@
 -- `log_places::records::kind_at` meets its contract. Assumes nothing.
 use Rattle.log_places.proofs.Bytes.{kind_of_byte}
 use native.Mathlib.Omega.{arith}
-use borrow.Author.Rules.{rules}
 use Rattle.log_places.proofs.records.kind_at.Goals as goal
 
 pub returns : goal.returns

@@ -1,7 +1,6 @@
 -- `log_places::records::place_at` meets its contract. Assumes nothing.
 use Rattle.log_places.proofs.Bytes.{place_of_bytes}
 use native.Mathlib.Omega.{arith}
-use borrow.Author.Rules.{rules}
 use Rattle.log_places.proofs.records.place_at.Goals as goal
 
 pub returns : goal.returns

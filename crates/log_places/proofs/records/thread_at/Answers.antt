@@ -1,7 +1,6 @@
 -- `log_places::records::thread_at` meets its contract. Assumes nothing.
 use Rattle.log_places.proofs.Bytes.{thread_of_byte}
 use native.Mathlib.Omega.{arith}
-use borrow.Author.Rules.{rules}
 use Rattle.log_places.proofs.records.thread_at.Goals as goal
 
 pub returns : goal.returns

@@ -1,11 +1,12 @@
 use Prim.Native.Nat.{suc, ◌-◌, ◌<◌}
 use native.Mathlib.Omega.{arith}
 use mathlib.Core.Path.{◌≡◌, subst as along}
+use borrow.Author.Tests.{lt-ltb, le-ltb}
 use Rattle.format.specs.Version.{version_of}
 use Rattle.log_arrows.proofs.OfLog.{log_short}
 use Rattle.text_judge_lines.proofs.LastConflicts.{Earlier, heard_most, inside, passed, found, not_none}
 use Rattle.text_judge_lines.proofs.search.last_conflict.Goals as goal
-use Rattle.text_judge_lines.proofs.search.last_conflict.Goals.{After-conflict}
+use Rattle.text_judge_lines.proofs.search.last_conflict.Goals.{After-conflict, else-conflict-via-then-conflict+else-not-heard, else-conflict-via-else-conflict}
 
 pub rows-requires : goal.rows-requires
 rows-requires c = record { accepted = c.requires.passed; sized = log_short c.args.log.now c.requires.passed }
@@ -49,17 +50,20 @@ earlier c =
 less : (c : After-conflict) → c.loop-index.index - 1 < c.args.later
 less c = let taken = c.loop-index-test.true in omega (arith, c.loop-index.invariant.0)
 
-pub returns-then-conflict-heard : goal.returns-then-conflict-heard
-returns-then-conflict-heard c =
+pub returns-then-not-heard : goal.returns-then-not-heard
+returns-then-not-heard c =
     found c.requires c.loop-index.invariant.1 c.columns_at-columns.ensures c.columns_at-access.ensures
-    (less (goal.at.returns-then-conflict-heard c).After-conflict) c.conflict.ensures c.if-conflict-heard.true (earlier (goal.at.returns-then-conflict-heard c).After-conflict)
+    (less (goal.at.returns-then-not-heard c).After-conflict) c.conflict.ensures (simp (c.if-conflict.true, le-ltb _ _ c.if-not-heard.true)) (earlier (goal.at.returns-then-not-heard c).After-conflict)
 
 pub loop-index-preserved : goal.loop-index-preserved
 loop-index-preserved c = (
   omega (arith, c.loop-index.invariant.0),
   c.loop-index.invariant.1,
   passed c.requires c.loop-index.invariant.1 c.columns_at-columns.ensures
-      c.columns_at-access.ensures (less (goal.at.loop-index-preserved c).After-conflict) c.conflict.ensures c.if-conflict-heard.false (earlier (goal.at.loop-index-preserved c).After-conflict),
+      c.columns_at-access.ensures (less (goal.at.loop-index-preserved c).After-conflict) c.conflict.ensures (elim c.else-conflict.branch [
+        | else-conflict-via-then-conflict+else-not-heard w ↦ simp (w.if-conflict.true, lt-ltb _ _ w.if-not-heard.false)
+        | else-conflict-via-else-conflict w ↦ simp w.if-conflict.false
+      ]) (earlier (goal.at.loop-index-preserved c).After-conflict),
 )
 
 pub returns : goal.returns
