@@ -115,8 +115,9 @@ fn by_either(log: &[u8], version: usize, all: bool) -> Found
     by_rows::<776>(log, version, 255)
 }
 
-// The answer by a table for 255 places, or at once by one for all, which decides too where 255 do not suffice. It calls itself, so that the compiler keeps it
-// apart: the frame of the large tables is then set up for such logs alone, not in every call of the entry.
+// The answer by a table for 255 places, or at once by one for all, which decides too where 255 do not suffice. It stays a function of its own: the frame of the
+// large tables is then set up for such logs alone, not in every call of the entry.
+#[inline(never)]
 fn widened(log: &[u8], version: usize, all: bool) -> Option<usize>
     requires { log_refusal log.now ≡ none }
     ensures { Answers (version_of version) log.now (answered (Ok result)) }
