@@ -45,8 +45,12 @@ unfolding record_count
 returns-then-area-file_length c =
     let a = c.args in let both = answers.turned_away a.log.now a.area.now
     (answers.refused_short a.log.now a.area.now (passed (goal.at.returns-then-area-file_length c).Else-wrong-count)
-    (omega (arith, c.if-area-file_length.true, c.file_length.ensures,
-    file_length a.log.now (few (goal.at.returns-then-area-file_length c).Else-wrong-count)))) in
+    (omega (
+      arith,
+      c.if-area-file_length.true,
+      c.file_length.ensures,
+      file_length a.log.now (few (goal.at.returns-then-area-file_length c).Else-wrong-count),
+    ))) in
     rw c.at-then-area-file_length.ensures (record { answer = both.0; area = both.1 })
 
 pub put_samples-at-requires : goal.put_samples-at-requires
