@@ -74,7 +74,8 @@ race_inside {b = b} J =
       access_inside = λ r e. (red_inside b J.red r.write r.access (ap race_of e)).1;
     }
 
-pub red_last : {version : ℕ} {b : List ℕ} {j i : ℕ} → NamedBy version b j → LastOf (version_of version) b j i → Judged version b (Some (record { write = i; access = j }))
+pub red_last : {version : ℕ} {b : List ℕ} {j i : ℕ} → NamedBy version b j → LastOf (version_of version) b j i
+    → Judged version b (Some (record { write = i; access = j }))
 red_last {version} {b} {j} {i} N L =
     record {
       version_known = N.version_known;

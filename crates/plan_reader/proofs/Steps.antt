@@ -125,14 +125,14 @@ module _ {ts counts : List ℕ} {v m : ℕ} {words roots params words' : List �
 
   -- the heading of the plan
   module _ (heading : Heading) (v_is : heading.version ≡ v) (m_is : heading.mask ≡ m) where
-    ends_as : (roots' params' : List ℕ) (r : Outcome) → EndsAs ts heading p at words' roots params roots' params' x r → v ≤ 1
-        → ReadBy ts words' roots' params' r
+    ends_as : (roots' params' : List ℕ) (r : Outcome) → EndsAs ts heading p at words' roots params roots' params' x r
+        → GoesAs ts v m words' roots' params' p (Break r)
     unfolding fault_of
-    ends_as roots' params' (Some (Err f)) q few =
+    ends_as roots' params' (Some (Err f)) q =
         opens g h t.values t.terms t.rest result_is (sym closed_is ∙ q.0) ∙ sym (rw (q.1, q.2) refl)
-    ends_as roots' params' (Some (Ok held)) q few =
-        rw (q.2, v_is, m_is) (last_held q.0 q.1, few)
-    ends_as roots' params' None q few = absurd q
+    ends_as roots' params' (Some (Ok held)) q =
+        rw (q.2, v_is, m_is) (last_held q.0 q.1, refl, refl, refl)
+    ends_as roots' params' None q = absurd q
 
     kept_as : (roots' params' : List ℕ) (r : ControlFlow Outcome Rest) → KeptAs ts heading p at words' roots params roots' params' x r
         → GoesAs ts v m words' roots' params' p r
@@ -150,4 +150,9 @@ module _ {ts : List ℕ} {v m : ℕ} {words roots params : List ℕ} {p : ℕ} {
   on_going e = subst (GoesAs ts v m words roots params p) e g.so
 
   pub ended : {o : Outcome} → r ≡ Break o → v ≤ 1 → ReadAs ts words roots params o
-  ended e few = record { so = (subst (GoesAs ts v m words roots params p) e g.so) few }
+  ended {o} e few = record { so = go o (subst (GoesAs ts v m words roots params p) e g.so) }
+    where
+      go : (o : Outcome) → GoesAs ts v m words roots params p (Break o) → ReadBy ts words roots params o
+      go (Some (Ok h)) (held, same_v, same_m, same_p) = rw (same_v, same_m, same_p) (held, few)
+      go (Some (Err f)) x = x
+      go None x = x

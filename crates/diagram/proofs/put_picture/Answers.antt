@@ -10,7 +10,8 @@ use Rattle.diagram.proofs.put_picture.Goals as goal
 
 pub needed-count-requires : goal.needed-count-requires
 needed-count-requires c =
-    let room : 7 * (length c.args.log.now / 3) ≤ 28672 = omega (arith, log_short c.args.log.now c.requires.judged.passed) in record { accepted = c.requires.judged.passed; room = record { from_room = room; to_room = room } }
+    let room : 7 * (length c.args.log.now / 3) ≤ 28672 = omega (arith, log_short c.args.log.now c.requires.judged.passed) in
+    record { accepted = c.requires.judged.passed; room = record { from_room = room; to_room = room } }
 
 pub put_diagram-requires : goal.put_diagram-requires
 put_diagram-requires c =

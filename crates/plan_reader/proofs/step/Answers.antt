@@ -23,7 +23,7 @@ keep-requires c =
 pub returns-in-Some-Err : goal.returns-in-Some-Err
 returns-in-Some-Err c =
     record {
-      so = λ few. stop_faulty c.requires.going c.requires.tokens_len_bound.2 c.requires.tokens_len_bound.1 c.procedure.ensures (c.in-Some-Err.is ∙ ap Some c.in-Some-Err.field-0-is);
+      so = stop_faulty c.requires.going c.requires.tokens_len_bound.2 c.requires.tokens_len_bound.1 c.procedure.ensures (c.in-Some-Err.is ∙ ap Some c.in-Some-Err.field-0-is);
     }
 
 pub returns-in-Some-Ok : goal.returns-in-Some-Ok
@@ -33,4 +33,4 @@ returns-in-Some-Ok c =
     c.keep.ensures
 
 pub returns-in-None : goal.returns-in-None
-returns-in-None c = record { so = λ few. read_full c.procedure.ensures c.in-None.is }
+returns-in-None c = record { so = read_full c.procedure.ensures c.in-None.is }

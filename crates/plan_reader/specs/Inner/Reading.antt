@@ -99,7 +99,10 @@ pub record Going (ts : List ℕ) (v m : ℕ) (words roots counts : List ℕ) (p 
 -- after procedure p: the next one, or what comes of the plan
 abbrev pub GoesAs : List ℕ → ℕ → ℕ → List ℕ → List ℕ → List ℕ → ℕ → ControlFlow Outcome Rest → Type 0
 GoesAs ts v m words roots counts p (Continue rest) = Going ts v m words roots counts (suc p) rest.at rest.left
-GoesAs ts v m words roots counts p (Break r) = v ≤ 1 → ReadBy ts words roots counts r
+GoesAs ts v m words roots counts p (Break (Some (Ok h))) =
+    PlanHeld ts v m (suc p) h.left words roots counts × (h.version ≡ v) × (h.mask ≡ m) × (h.procedures ≡ suc p)
+GoesAs ts v m words roots counts p (Break (Some (Err f))) = Faulty ts f.kind f.reason f.at
+GoesAs ts v m words roots counts p (Break None) = length words < 1024
 
 pub record Goes (ts : List ℕ) (v m : ℕ) (words roots counts : List ℕ) (p : ℕ) (r : ControlFlow Outcome Rest) : Type 0 where
   pub so : GoesAs ts v m words roots counts p r

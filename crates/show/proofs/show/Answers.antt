@@ -20,10 +20,12 @@ pub show_in-requires-clause-given : goal.show_in-requires-clause-given
 show_in-requires-clause-given c = let l = c.in_ok-load.ensures in let g = given l.result_value refl l.loaded in (g, omega (arith, plan_within _ _ g))
 
 pub show_in-requires-in-61-to-210-clause-given : goal.show_in-requires-in-61-to-210-clause-given
-show_in-requires-in-61-to-210-clause-given c = let l = c.in_ok-load.ensures in let g = given l.result_value refl l.loaded in (g, omega (arith, plan_within _ _ g))
+show_in-requires-in-61-to-210-clause-given c =
+    let g = given c.in_ok-load.ensures.result_value refl c.in_ok-load.ensures.loaded in (g, omega (arith, plan_within _ _ g))
 
 pub show_in-requires-in-211-to-679-clause-given : goal.show_in-requires-in-211-to-679-clause-given
-show_in-requires-in-211-to-679-clause-given c = let l = c.in_ok-load.ensures in let g = given l.result_value refl l.loaded in (g, omega (arith, plan_within _ _ g))
+show_in-requires-in-211-to-679-clause-given c =
+    let g = given c.in_ok-load.ensures.result_value refl c.in_ok-load.ensures.loaded in (g, omega (arith, plan_within _ _ g))
 
 pub show_in-requires-in_default-clause-given : goal.show_in-requires-in_default-clause-given
 show_in-requires-in_default-clause-given c = let l = c.in_ok-load.ensures in let g = given l.result_value refl l.loaded in (g, plan_few _ _ g)

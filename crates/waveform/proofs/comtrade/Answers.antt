@@ -18,7 +18,8 @@ use Rattle.waveform.proofs.comtrade.Goals.{Else-wrong-count}
 pub returns-then-wrong_length : goal.returns-then-wrong_length
 returns-then-wrong_length c =
     let a = c.args in let both = answers.turned_away a.log.now a.area.now
-    (answers.refused_log a.log.now a.area.now (refused_length a.log.now (sym c.if-wrong_length.true ∙ c.wrong_length.ensures))) in rw c.at.ensures (record { answer = both.0; area = both.1 })
+    (answers.refused_log a.log.now a.area.now (refused_length a.log.now (sym c.if-wrong_length.true ∙ c.wrong_length.ensures))) in
+    rw c.at.ensures (record { answer = both.0; area = both.1 })
 
 pub returns-then-wrong-count : goal.returns-then-wrong-count
 returns-then-wrong-count c =
@@ -44,7 +45,12 @@ unfolding record_count
 returns-then-area-file_length c =
     let a = c.args in let both = answers.turned_away a.log.now a.area.now
     (answers.refused_short a.log.now a.area.now (passed (goal.at.returns-then-area-file_length c).Else-wrong-count)
-    (omega (arith, c.if-area-file_length.true, c.file_length.ensures, file_length a.log.now (few (goal.at.returns-then-area-file_length c).Else-wrong-count)))) in
+    (omega (
+      arith,
+      c.if-area-file_length.true,
+      c.file_length.ensures,
+      file_length a.log.now (few (goal.at.returns-then-area-file_length c).Else-wrong-count),
+    ))) in
     rw c.at-then-area-file_length.ensures (record { answer = both.0; area = both.1 })
 
 pub put_samples-at-requires : goal.put_samples-at-requires
