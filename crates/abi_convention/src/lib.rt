@@ -1,14 +1,14 @@
-// What every entry for C and Rust returns: a number of 64 bits, whose upper half says which kind of answer it is.
+// What every entry for C and Rust returns: a number of 64 bits, whose upper half says which kind of answer it is. A refusal is of any type that
+// tells its number and its place, so of any number.
 #![tactic(auto)]
 
 ghost use Rattle.std.specs.Prelude.{◌≡◌, ◌+◌, ◌*◌, ◌^◌, ◌≤◌, min};
-ghost use Rattle.plan_refusals.specs.Answer as refusals;
 ghost use Rattle.plan_refusals.specs.Inner.Small.{SmallCheck};
-ghost use Rattle.answers.specs.Answer as tool;
+ghost use Rattle.numbered_refusals.specs.Answered.{check_by, tool_by};
 ghost use Rattle.abi_convention.specs.Convention.{check_number, answer_number, place_number};
 ghost use Rattle.abi_convention.specs.Inner.Small.{SmallNumber, SmallAnswer};
 
-use refusals::Refusal;
+use numbered_refusals::Numbered;
 
 // Of a refusal: 2 in the upper half.
 pub fn refusal(number: usize, place: usize) -> u64
@@ -27,24 +27,24 @@ pub fn index(index: usize) -> u64
 }
 
 // Of a check's answer.
-pub fn of_check(checked: Result<(), Refusal>) -> u64
-    requires { SmallCheck (refusals.answered checked) }
-    ensures { result ≡ check_number (refusals.answered checked) }
+pub fn of_check<R: Numbered>(checked: Result<(), R>) -> u64
+    requires { SmallCheck (check_by R.told checked) }
+    ensures { result ≡ check_number (check_by R.told checked) }
 {
     match checked {
         Ok(()) => 0,
-        Err(refused) => refusal(refused.number(), refused.place),
+        Err(refused) => refusal(refused.number(), refused.place()),
     }
 }
 
 // Of a tool's answer.
-pub fn of_answer(answered: Result<usize, Refusal>) -> u64
-    requires { SmallAnswer (tool.answered answered) }
-    ensures { result ≡ answer_number (tool.answered answered) }
+pub fn of_answer<R: Numbered>(answered: Result<usize, R>) -> u64
+    requires { SmallAnswer (tool_by R.told answered) }
+    ensures { result ≡ answer_number (tool_by R.told answered) }
 {
     match answered {
         Ok(value) => value as u64,
-        Err(refused) => refusal(refused.number(), refused.place),
+        Err(why) => refusal(why.number(), why.place()),
     }
 }
 

@@ -1,14 +1,16 @@
-// The outcome of a run as 40 bytes, and what a play returns.
+// The outcome of a run as 40 bytes, and what a play returns, whose refusal is of any type that tells its number and its place.
 #![tactic(auto)]
 
 ghost use Rattle.std.specs.Prelude.{◌≡◌, ◌/◌, ◌%◌, ◌<◌};
-ghost use Rattle.play.specs.Answer.{stop_of, outcome_of, answered};
+ghost use Rattle.play.specs.Answer.{stop_of, outcome_of};
+ghost use Rattle.abi_outcome.specs.Answered.{play_by};
 ghost use Rattle.abi_outcome.specs.Bytes.{outcome_bytes};
 ghost use Rattle.abi_outcome.specs.Inner.Small.{SmallOutcome, SmallPlayed};
 ghost use Rattle.abi_outcome.specs.Play.{play_number, out_after};
 ghost use Rattle.abi_outcome.specs.Inner.Parts.{head_bytes};
 
 use abi_thread_bytes::{stop_byte, thread_bytes};
+use numbered_refusals::Numbered;
 use play::outcome::Played;
 use run_outcome::{Outcome, Stop};
 
@@ -60,10 +62,10 @@ pub fn write(out: &mut [u8; 40], outcome: Outcome)
 }
 
 // 0 and the 40 bytes of a run; or the refusal, and no byte changed.
-pub fn write_play(out: &mut [u8; 40], played: Played) -> u64
-    requires { SmallPlayed (answered played) }
-    ensures number { result ≡ play_number (answered played) }
-    ensures bytes { out.new ≡ out_after out.old (answered played) }
+pub fn write_play<R: Numbered>(out: &mut [u8; 40], played: Played<R>) -> u64
+    requires { SmallPlayed (play_by R.told played) }
+    ensures number { result ≡ play_number (play_by R.told played) }
+    ensures bytes { out.new ≡ out_after out.old (play_by R.told played) }
 {
     let checked = played.checked;
     match checked {
@@ -72,6 +74,6 @@ pub fn write_play(out: &mut [u8; 40], played: Played) -> u64
             write(out, outcome);
             0
         }
-        Err(refused) => abi_convention::refusal(refused.number(), refused.place),
+        Err(refused) => abi_convention::refusal(refused.number(), refused.place()),
     }
 }

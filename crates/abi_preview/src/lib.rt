@@ -1,15 +1,16 @@
-// A preview as a number and eight bytes, for programs in C, Rust and other languages.
+// A preview as a number and eight bytes, for programs in C, Rust and other languages. Its refusal is of any type that tells its number and its place.
 #![tactic(auto)]
 
 ghost use Rattle.std.specs.Prelude.{◌≡◌};
 ghost use Rattle.play.specs.Answer.{stop_of};
 ghost use Rattle.abi_thread_bytes.specs.Bytes.{three, stop_byte};
-ghost use Rattle.preview.specs.Answer.{answered, preview_of, AsLogged, LoggedAs};
+ghost use Rattle.preview.specs.Answer.{preview_of, LoggedAs};
+ghost use Rattle.abi_preview.specs.Answered.{preview_by, LoggedIn};
 ghost use Rattle.abi_preview.specs.Bytes.{preview_bytes, preview_number, out_after};
 ghost use Rattle.abi_preview.specs.Inner.Small.{SmallPreview, SmallPreviewed, eight, no_record};
 
 use abi_thread_bytes::ThreadBytes;
-use refusals::Refusal;
+use numbered_refusals::Numbered;
 use run_last_pick::{Preview, RecordBytes};
 use run_outcome::Stop;
 
@@ -75,16 +76,16 @@ fn write_shown(out: &mut [u8; 8], shown: Preview)
 }
 
 // 0 and the eight bytes; or the refusal, and no byte changed.
-pub fn write(out: &mut [u8; 8], previewed: Result<Preview, Refusal>) -> u64
-    requires { SmallPreviewed (answered previewed) × AsLogged previewed }
-    ensures number { result ≡ preview_number (answered previewed) }
-    ensures bytes { out.new ≡ out_after out.old (answered previewed) }
+pub fn write<R: Numbered>(out: &mut [u8; 8], previewed: Result<Preview, R>) -> u64
+    requires { SmallPreviewed (preview_by R.told previewed) × LoggedIn previewed }
+    ensures number { result ≡ preview_number (preview_by R.told previewed) }
+    ensures bytes { out.new ≡ out_after out.old (preview_by R.told previewed) }
 {
     match previewed {
         Ok(shown) => {
             write_shown(out, shown);
             0
         }
-        Err(refused) => abi_convention::refusal(refused.number(), refused.place),
+        Err(refused) => abi_convention::refusal(refused.number(), refused.place()),
     }
 }

@@ -15,7 +15,7 @@ use Rattle.refusals.specs.declared.Refusal.{Refusal}
 use Rattle.log_records.specs.Packed.{bytes_of}
 use Rattle.rules.specs.Run.{log}
 use Rattle.rules.specs.Play.{played, area_after, run_of}
-use Rattle.play.specs.declared.outcome.Played.{Played}
+use Rattle.play.specs.Played.{Played}
 use Rattle.play.specs.Answer.{stop_of, answered}
 use Rattle.plan_refusals.proofs.Stages.{passed_refused}
 use Rattle.play.proofs.Ran.{passes, stop_is, records_are, begins}

@@ -20,7 +20,7 @@ use Rattle.rules.specs.Play.{short_area, schedule_refusal, play_refusal, played,
 use Rattle.run_schedule_refusals.specs.Inner.Checks.{area_checks}
 use Rattle.run_refusals.proofs.RefusalChain.{play_stages}
 use Rattle.run_refusals.proofs.Passed.{scheduled}
-use Rattle.play.specs.declared.outcome.Played.{Played}
+use Rattle.play.specs.Played.{Played}
 use Rattle.play.specs.Answer.{stop_of, outcome_of, answered_by, answered}
 use Rattle.play.proofs.Ran.{not_refused, ran_is, outcome_is}
 use Rattle.answers.specs.Answer.{Answer, value, refused, answer_by}

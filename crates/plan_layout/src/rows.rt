@@ -10,9 +10,9 @@ use std::marker::Model;
 const TOKENS: usize = 69;
 
 // The rows of all tokens. They are always those of the texts.
-#[derive(Drop)]
+#[derive(Clone, Copy)]
 pub struct TextRows {
-    table: [[u8; 10]; TOKENS],
+    pub table: [[u8; 10]; TOKENS],
 }
 
 impl Model for TextRows {
@@ -21,6 +21,8 @@ impl Model for TextRows {
     ghost view = { λ rows. rows.table };
 
     ghost invariant = { λ rows. rows.table ≡ text_rows };
+
+    ghost inverse = { λ table. record { table = table } };
 }
 
 // The name by which they are passed: a struct of this name and the function `rows` would differ only in case.

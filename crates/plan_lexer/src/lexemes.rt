@@ -16,7 +16,7 @@ pub struct Lexeme {
     pub end: usize,
 }
 
-// By the class of the byte; what is most frequent is asked first.
+// By the class of the byte. A name is asked for last: with the loop over it in between, the one over a comment is compiled longer, and takes longer.
 #[inline(always)]
 pub fn begun(classes: &Classes, text: &[u8], index: usize) -> Lexeme
     requires classed { Classed classes.now }
@@ -28,13 +28,6 @@ pub fn begun(classes: &Classes, text: &[u8], index: usize) -> Lexeme
     if class == BLANK {
         return Lexeme { code: None, end };
     }
-    if class < HASH {
-        let name = extents::name_from(classes, text, end, class);
-        return Lexeme {
-            code: Some(names::token_of(name.value)),
-            end: name.end,
-        };
-    }
     if MARK <= class {
         return Lexeme {
             code: Some(class),
@@ -45,14 +38,21 @@ pub fn begun(classes: &Classes, text: &[u8], index: usize) -> Lexeme
         let end = extents::comment_end(text, end);
         return Lexeme { code: None, end };
     }
-    if extents::becomes(text, index) {
+    if HASH < class {
+        if extents::becomes(text, index) {
+            return Lexeme {
+                code: Some(BECOMES),
+                end: index + 2,
+            };
+        }
         return Lexeme {
-            code: Some(BECOMES),
-            end: index + 2,
+            code: Some(UNKNOWN),
+            end,
         };
     }
+    let name = extents::name_from(classes, text, end, class);
     Lexeme {
-        code: Some(UNKNOWN),
-        end,
+        code: Some(names::token_of(name.value)),
+        end: name.end,
     }
 }

@@ -89,7 +89,7 @@ impl Pen {
     }
 
     // What stands before a token whose text is so long.
-    fn gap_before(self, looks: &Looks, token: u8, width: usize) -> Gap
+    pub fn gap_before(self, looks: &Looks, token: u8, width: usize) -> Gap
         requires token_value { (token < text_end) × (self.last ≤ text_end) }
         requires width_value { (width ≡ length (text_of token)) × (width < 10) × (self.column < 100) }
         ensures { Parts (pen_of self) token result }
@@ -114,7 +114,7 @@ impl Pen {
     }
 
     // Where writing stands behind a token and its gap.
-    fn after(self, looks: &Looks, token: u8, width: usize, gap: Gap) -> Pen
+    pub fn after(self, looks: &Looks, token: u8, width: usize, gap: Gap) -> Pen
         requires token_value { token < text_end }
         requires width_value { (width ≡ length (text_of token)) × (width < 10) × (self.column < 100) × (self.depth < 16384) }
         requires parts { Parts (pen_of self) token gap }

@@ -8,9 +8,9 @@ use byte_numbers::wide;
 use std::marker::Model;
 
 // The looks of all tokens. They are always those of the definition.
-#[derive(Drop)]
+#[derive(Clone, Copy)]
 pub struct Looks {
-    rows: [[u8; 2]; 70],
+    pub rows: [[u8; 2]; 70],
 }
 
 impl Model for Looks {
@@ -19,6 +19,8 @@ impl Model for Looks {
     ghost view = { λ looks. looks.rows };
 
     ghost invariant = { λ looks. looks.rows ≡ look_rows };
+
+    ghost inverse = { λ rows. record { rows = rows } };
 }
 
 // Of each token, and of none at the start: what it says behind it and before it. A bit of 1, 2 or 4 that both have is no space, one of 8, 16 or 32 a new

@@ -6,9 +6,9 @@ use byte_numbers::wide;
 use std::marker::Model;
 
 // The rows of all tags. They are always those of the definition.
-#[derive(Drop)]
+#[derive(Clone, Copy)]
 pub struct Rows {
-    table: [[u8; 8]; 28],
+    pub table: [[u8; 8]; 28],
 }
 
 impl Model for Rows {
@@ -17,6 +17,8 @@ impl Model for Rows {
     ghost view = { λ rows. rows.table };
 
     ghost invariant = { λ rows. rows.table ≡ item_rows };
+
+    ghost inverse = { λ table. record { table = table } };
 }
 
 // Eight numbers to a row: how tightly the term binds, from 0 to 3, how many items it has, and these: a token; 70 a slot, 71 a binder, 72 a field, 73 a

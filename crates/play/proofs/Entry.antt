@@ -14,7 +14,7 @@ use Rattle.rules.specs.Run as run
 use Rattle.rules.specs.Play as play
 use Rattle.rules.specs.Play.{play_refusal, played, played_by, area_after, area_by}
 use Rattle.run_tally.specs.declared.Ran.{Ran}
-use Rattle.play.specs.declared.outcome.Played.{Played}
+use Rattle.play.specs.Played.{Played}
 use Rattle.run_refusals.specs.Inner.Refused.{RefusedAs}
 use Rattle.plan_packed.specs.Inner.Steps.{Loaded}
 use Rattle.play.specs.Inner.RunOn.{Given, RunOn}

@@ -11,7 +11,7 @@ use Rattle.rules.specs.Executed.{Executed}
 use Rattle.rules.specs.Play as play
 use Rattle.rules.specs.Play.{played, area_after, run_of}
 use Rattle.rules.proofs.Executed.{plan_executed}
-use Rattle.play.specs.declared.outcome.Played.{Played}
+use Rattle.play.specs.Played.{Played}
 use Rattle.play.specs.Answer.{outcome_of, answered, NoRunIfRefused}
 use Rattle.play.specs.ExecutedOn.{ExecutedIfPassed}
 use Rattle.play.proofs.Ran.{ran_passed, ran_outcome, ran_area, ran_is}

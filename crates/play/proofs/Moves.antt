@@ -14,7 +14,7 @@ use Rattle.rules.specs.Run.{Run, stopped, after_pass, after_move, instances}
 use Rattle.rules.specs.Execution.{Execution, ends, passes, lacks_key_lem, no_room_lem, moves}
 use Rattle.rules.specs.Play.{played, run_of}
 use Rattle.rules.proofs.Executed.{play_executes}
-use Rattle.play.specs.declared.outcome.Played.{Played}
+use Rattle.play.specs.Played.{Played}
 use Rattle.play.specs.Answer.{outcome_of, answered}
 use Rattle.play.proofs.Ran as ran
 

@@ -21,7 +21,7 @@ use Rattle.rules.specs.Run.{log}
 use Rattle.rules.specs.Play as play
 use Rattle.rules.specs.Play.{play_refusal, played, played_by, area_after, area_by, run_of}
 use Rattle.rules.proofs.TidyRuns.{tidy_play}
-use Rattle.play.specs.declared.outcome.Played.{Played}
+use Rattle.play.specs.Played.{Played}
 use Rattle.play.specs.Answer.{stop_of, outcome_of, answered_by, answered}
 use Rattle.run_refusals.proofs.Passed.{Passed, passed}
 

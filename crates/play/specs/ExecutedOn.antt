@@ -5,7 +5,7 @@ use Rattle.log_records.specs.Record.{Record}
 use Rattle.log_records.specs.Packed.{bytes_of}
 use Rattle.rules.specs.Executed.{Executed}
 use Rattle.format.specs.Area.{overwrite}
-use Rattle.play.specs.declared.outcome.Played.{Played}
+use Rattle.play.specs.Played.{Played}
 use Rattle.play.specs.Answer.{outcome_of}
 
 -- a run that was played: its log, its outcome and its log area, before and after

@@ -1,3 +1,4 @@
 pub mod Answer
 pub mod ExecutedOn
 pub mod Inner
+pub mod Played

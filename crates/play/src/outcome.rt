@@ -5,15 +5,16 @@ ghost use Rattle.play.specs.Answer.{no_run};
 use refusals::Refusal;
 use run_outcome::{Outcome, Stop, Thread, ThreadState};
 
-// What a play answers: what refused it, or that nothing did; then the run's outcome, or that of no run.
+// What a play answers: what refused it, or that nothing did; then the run's outcome, or that of no run. `play` refuses by a reason; another's refusals
+// may be of any type.
 #[derive(Clone, Copy)]
-pub struct Played {
-    pub checked: Result<(), Refusal>,
+pub struct Played<R = Refusal> {
+    pub checked: Result<(), R>,
     pub outcome: Outcome,
 }
 
 // A refused play has no run.
-pub fn refused(checked: Result<(), Refusal>) -> Played
+pub fn refused<R>(checked: Result<(), R>) -> Played<R>
     ensures checked_value { result.checked ≡ checked }
     ensures outcome_value { result.outcome ≡ no_run }
 {

@@ -12,7 +12,7 @@ use Rattle.plan_refusals.proofs.Stages.{Checked}
 use Rattle.rules.specs.Run as run
 use Rattle.rules.specs.Play as play
 use Rattle.rules.specs.Play.{play_refusal, played, played_by, run_of}
-use Rattle.play.specs.declared.outcome.Played.{Played}
+use Rattle.play.specs.Played.{Played}
 use Rattle.play.specs.Answer.{outcome_of, answered_by, answered}
 use Rattle.play.proofs.Ran.{passes, outcome_is}
 use Rattle.plan_refusals.specs.Inner.Small.{SmallRefusal, SmallCheck}

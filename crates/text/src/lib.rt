@@ -13,13 +13,16 @@ pub fn put_byte(area: &mut [u8], at: usize, byte: u8) -> usize
     at + 1
 }
 
+// Byte by byte: std's `copy_from_slice` would have an archive for C need `memmove` from outside.
 pub fn put_word(area: &mut [u8], at: usize, word: &[u8]) -> usize
     requires { at + length word.now ≤ length area.old }
     ensures { Wrote area.old at word.now area.new result }
 {
-    let end = at + word.len();
-    area[at..end].copy_from_slice(word);
-    end
+    let mut next = at;
+    for byte in word {
+        next = put_byte(area, next, *byte);
+    }
+    next
 }
 
 // The decimal digits of a number, no zero in front.

@@ -25,7 +25,7 @@ use Rattle.rules.specs.Play.{schedule_refusal, play_refusal, played, played_by, 
 use Rattle.rules.proofs.TidyRuns.{tidy_play}
 use Rattle.run_outcome.specs.declared.Stop.{Stop}
 use Rattle.run_outcome.specs.declared.Stop.TheVariants as stop
-use Rattle.play.specs.declared.outcome.Played.{Played}
+use Rattle.play.specs.Played.{Played}
 use Rattle.play.specs.Answer.{stop_of, room_of, outcome_of, answered_by, answered}
 use Rattle.play.proofs.Ran.{not_refused, ran_is, passes, outcome_is, stop_is, records_are, begins}
 use Rattle.agreement.proofs.Agreed.{agreement}

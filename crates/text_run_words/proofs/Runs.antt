@@ -16,7 +16,7 @@ use Rattle.log_records.proofs.RoundTrip.{length_bytes}
 use Rattle.rules.specs.Run.{log}
 use Rattle.rules.specs.Play as rules
 use Rattle.rules.specs.Play.{schedule_refusal, play_refusal, played, played_by, area_after, area_by, run_of}
-use Rattle.play.specs.declared.outcome.Played.{Played}
+use Rattle.play.specs.Played.{Played}
 use Rattle.play.specs.Answer.{outcome_of, answered_by, answered}
 use Rattle.play.proofs.Ran.{not_refused, ran_is, ran_area, records_are, few_records}
 use Rattle.charge.proofs.Charged.{long_area}

@@ -15,7 +15,7 @@ use Rattle.log_records.proofs.RoundTrip.{log_of_bytes_of}
 use Rattle.rules.specs.Run.{log}
 use Rattle.rules.specs.Play.{played, area_after, run_of}
 use Rattle.rules.proofs.TidyRuns.{tidy_play}
-use Rattle.play.specs.declared.outcome.Played.{Played}
+use Rattle.play.specs.Played.{Played}
 use Rattle.play.specs.Answer.{stop_of, outcome_of, answered_by, answered}
 use Rattle.play.proofs.Ran.{passes, begins}
 use Rattle.text_record_lines.specs.Lines.{record_lines}

@@ -19,7 +19,7 @@ use Rattle.rules.specs.Run as run
 use Rattle.run_outcome.specs.declared.Thread.{Thread}
 use Rattle.rules.specs.Play as play
 use Rattle.rules.specs.Play.{schedule_refusal, played, played_by, run_of}
-use Rattle.play.specs.declared.outcome.Played.{Played}
+use Rattle.play.specs.Played.{Played}
 use Rattle.play.specs.Answer.{status_of, outcome_of, answered_by, answered}
 use Rattle.play.proofs.Ran.{not_refused, ran_is, outcome_is}
 use Rattle.charge.proofs.Charged.{long_area}

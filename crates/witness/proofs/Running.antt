@@ -27,7 +27,7 @@ use Rattle.run_outcome.specs.declared.Outcome.{Outcome}
 use Rattle.run_schedule_refusals.specs.Inner.Checks.{pick_checks, area_checks}
 use Rattle.run_refusals.proofs.RefusalChain.{schedule_stages, play_stages}
 use Rattle.run_refusals.proofs.Passed.{scheduled}
-use Rattle.play.specs.declared.outcome.Played.{Played}
+use Rattle.play.specs.Played.{Played}
 use Rattle.play.specs.Answer.{stop_of, outcome_of, answered_by, answered}
 use Rattle.play.proofs.Ran.{outcome_is, stop_is}
 use Rattle.play.proofs.Moves.{moves_are}

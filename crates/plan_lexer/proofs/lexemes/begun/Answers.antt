@@ -20,7 +20,7 @@ scanned c = record { inside = c.requires.inside; byte = c.class_of-class.ensures
 a_colon : (c : After-becomes)
     → (37 < c.class_of-class.result) × (c.class_of-class.result < 62) × (c.class_of-class.result ≡ 39 → ⊥)
 a_colon c = (
-  omega (arith, c.if-class-lt-HASH.false, c.if-class-eq-HASH.false),
+  omega (arith, c.if-class-gt-HASH.true),
   omega (arith, c.if-class-ge-MARK.false),
   c.if-class-eq-BLANK.false,
 )
@@ -38,18 +38,6 @@ returns-then-class-eq-BLANK c =
 
 pub name_from-name-requires : goal.name_from-name-requires
 name_from-name-requires c = record { classed = c.requires.classed; from_in_bounds = search rules }
-
-pub returns-then-class-lt-HASH : goal.returns-then-class-lt-HASH
-returns-then-class-lt-HASH c =
-    let n = c.name_from-name in
-    let i = c.args.index in
-    record {
-      behind = omega (arith, n.ensures.behind);
-      inside = n.ensures.inside;
-      same = digit (scanned (goal.at.returns-then-class-lt-HASH c).After-class_of-class) c.if-class-lt-HASH.true
-          ∙ n.ensures.same i
-          ∙ ap (λ (x : ℕ). token x i ∷ onward nothing c.args.text.now n.result.end) (sym c.token_of.ensures);
-    }
 
 pub returns-then-class-ge-MARK : goal.returns-then-class-ge-MARK
 returns-then-class-ge-MARK c =
@@ -79,12 +67,24 @@ returns-then-becomes c =
       same = pair (scanned at.After-class_of-class) (a_colon at.After-becomes) q;
     }
 
-pub returns : goal.returns
-returns c =
+pub returns-then-class-gt-HASH : goal.returns-then-class-gt-HASH
+returns-then-class-gt-HASH c =
     let q = eqb-false (get_or c.args.text.now (c.args.index + 1) 0) 61 (sym c.becomes.ensures ∙ c.if-becomes.false) in
-    let at = goal.at.returns c in
+    let at = goal.at.returns-then-class-gt-HASH c in
     record {
       behind = omega arith;
       inside = omega (arith, c.requires.inside);
       same = lone (scanned at.After-class_of-class) (a_colon at.After-becomes) q;
+    }
+
+pub returns : goal.returns
+returns c =
+    let n = c.name_from-name in
+    let i = c.args.index in
+    record {
+      behind = omega (arith, n.ensures.behind);
+      inside = n.ensures.inside;
+      same = digit (scanned (goal.at.returns c).After-class_of-class) (omega (arith, c.if-class-gt-HASH.false, c.if-class-eq-HASH.false))
+          ∙ n.ensures.same i
+          ∙ ap (λ (x : ℕ). token x i ∷ onward nothing c.args.text.now n.result.end) (sym c.token_of.ensures);
     }

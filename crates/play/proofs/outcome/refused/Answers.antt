@@ -3,4 +3,4 @@ use mathlib.Core.Path.{refl}
 use Rattle.play.proofs.outcome.refused.Goals as goal
 
 pub returns : goal.returns
-returns c = record { checked_value = refl; outcome_value = refl }
+returns g c = record { checked_value = refl; outcome_value = refl }
