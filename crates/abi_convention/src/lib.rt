@@ -4,7 +4,7 @@
 
 ghost use Rattle.std.specs.Prelude.{◌≡◌, ◌+◌, ◌*◌, ◌^◌, ◌≤◌, min};
 ghost use Rattle.plan_refusals.specs.Inner.Small.{SmallCheck};
-ghost use Rattle.numbered_refusals.specs.Answered.{check_by, tool_by};
+ghost use Rattle.numbered_refusals.specs.Inner.Answered.{check_by, tool_by};
 ghost use Rattle.abi_convention.specs.Convention.{check_number, answer_number, place_number};
 ghost use Rattle.abi_convention.specs.Inner.Small.{SmallNumber, SmallAnswer};
 

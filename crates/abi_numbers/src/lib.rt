@@ -3,7 +3,7 @@
 
 ghost use Rattle.std.specs.Prelude.{◌≡◌};
 ghost use Rattle.read.specs.Answer as texts;
-ghost use Rattle.abi_numbers.specs.Answered.{judge_by, next_by};
+ghost use Rattle.abi_numbers.specs.Inner.Answered.{judge_by, next_by};
 ghost use Rattle.abi_numbers.specs.Numbers.{judge_number, next_number, read_number};
 ghost use Rattle.abi_numbers.specs.Inner.Small.{SmallJudged, SmallNext, SmallRead};
 

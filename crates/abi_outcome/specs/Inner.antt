@@ -1,3 +1,4 @@
 -- What only inner contracts speak of: no reader of the entries' promises needs it. Assumes nothing.
 pub mod Small
 pub mod Parts
+pub mod Answered

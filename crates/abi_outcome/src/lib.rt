@@ -3,7 +3,7 @@
 
 ghost use Rattle.std.specs.Prelude.{◌≡◌, ◌/◌, ◌%◌, ◌<◌};
 ghost use Rattle.play.specs.Answer.{stop_of, outcome_of};
-ghost use Rattle.abi_outcome.specs.Answered.{play_by};
+ghost use Rattle.abi_outcome.specs.Inner.Answered.{play_by};
 ghost use Rattle.abi_outcome.specs.Bytes.{outcome_bytes};
 ghost use Rattle.abi_outcome.specs.Inner.Small.{SmallOutcome, SmallPlayed};
 ghost use Rattle.abi_outcome.specs.Play.{play_number, out_after};

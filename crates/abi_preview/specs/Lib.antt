@@ -1,3 +1,2 @@
-pub mod Answered
 pub mod Bytes
 pub mod Inner

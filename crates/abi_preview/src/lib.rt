@@ -5,7 +5,7 @@ ghost use Rattle.std.specs.Prelude.{◌≡◌};
 ghost use Rattle.play.specs.Answer.{stop_of};
 ghost use Rattle.abi_thread_bytes.specs.Bytes.{three, stop_byte};
 ghost use Rattle.preview.specs.Answer.{preview_of, LoggedAs};
-ghost use Rattle.abi_preview.specs.Answered.{preview_by, LoggedIn};
+ghost use Rattle.abi_preview.specs.Inner.Answered.{preview_by, LoggedIn};
 ghost use Rattle.abi_preview.specs.Bytes.{preview_bytes, preview_number, out_after};
 ghost use Rattle.abi_preview.specs.Inner.Small.{SmallPreview, SmallPreviewed, eight, no_record};
 

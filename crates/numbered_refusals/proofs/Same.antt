@@ -6,7 +6,7 @@ use Rattle.refusals.specs.declared.Refusal as code
 use Rattle.refusals.specs.Numbers.{refusal_of}
 use Rattle.plan_refusals.specs.Answer as check
 use Rattle.answers.specs.Answer as tool
-use Rattle.numbered_refusals.specs.Answered.{check_by, tool_by}
+use Rattle.numbered_refusals.specs.Inner.Answered.{check_by, tool_by}
 
 pub same_check : (x : Result (Unit {0}) code.Refusal) → check_by refusal_of x ≡ check.answered x
 unfolding check.answered

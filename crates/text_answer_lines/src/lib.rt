@@ -5,7 +5,7 @@
 ghost use Rattle.std.specs.Prelude.{◌≤◌, length};
 ghost use Rattle.text.specs.Inner.Wrote.{Wrote};
 ghost use Rattle.text_refusal_lines.specs.Lines.{refusal_lines};
-ghost use Rattle.numbered_refusals.specs.Answered.{tool_by};
+ghost use Rattle.numbered_refusals.specs.Inner.Answered.{tool_by};
 ghost use Rattle.text_answer_lines.specs.Inner.Told.{Settled};
 
 use numbered_refusals::Numbered;

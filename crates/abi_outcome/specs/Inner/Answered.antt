@@ -1,4 +1,5 @@
--- What a play answers whose refusal is of any type: by the number and place that are told of it. Assumes nothing.
+-- What a play answers whose refusal is of any type: by the number and place that are told of it.
+-- For inner contracts; no reader of the entries' promises needs it. Assumes nothing.
 use Rattle.std.specs.Prelude.{Result, Ok, Err}
 use Rattle.format.specs.Refusal.{Refusal}
 use Rattle.rules.specs.Play as play

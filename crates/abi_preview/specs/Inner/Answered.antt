@@ -1,4 +1,5 @@
--- What a preview answers whose refusals are of any type: by the number and place that are told of each. Assumes nothing.
+-- What a preview answers whose refusals are of any type: by the number and place that are told of each.
+-- For inner contracts; no reader of the entries' promises needs it. Assumes nothing.
 use Rattle.std.specs.Prelude.{Result, Ok, Err}
 use Rattle.format.specs.Refusal.{Refusal}
 use Rattle.run_last_pick.specs.declared.Preview as code

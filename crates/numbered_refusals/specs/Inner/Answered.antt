@@ -1,4 +1,5 @@
--- What an answer says whose refusals are of any type: by the number and place that are told of each. Assumes nothing.
+-- What an answer says whose refusals are of any type: by the number and place that are told of each.
+-- For inner contracts; no reader of the entries' promises needs it. Assumes nothing.
 use Rattle.std.specs.Prelude.{ℕ, Result, Ok, Err}
 use Rattle.std.proofs.Math.Option.{Option, some, none}
 use Rattle.format.specs.Refusal.{Refusal}

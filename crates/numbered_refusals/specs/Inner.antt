@@ -1,0 +1,2 @@
+-- What only inner contracts speak of: no reader of the entries' promises needs it. Assumes nothing.
+pub mod Answered
